@@ -1,0 +1,10 @@
+pub mod Flags
+pub mod Number
+pub mod Layout
+pub mod Making
+pub mod Identity
+pub mod Faults
+pub mod Sound
+pub mod Response
+pub mod Check
+pub mod Loopback
