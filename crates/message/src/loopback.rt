@@ -63,8 +63,12 @@ pub fn loopback<K: RecordKind>(
     monitoring_number: u32,
     buffer: &mut [u8],
 ) -> Result<Returned<K>, LoopbackFault>
-    ensures answer { λ r. ⌜ r ≡ loopback-answer (K·RecordKind .format) (now (parameters .entry)) (response-of «safety_data» flags «consumer_id» «monitoring_number») (now (buffer .entry)) ⌝ }
-    ensures written { λ _. ⌜ now (buffer .exit) ≡ built (K·RecordKind .format) (now (parameters .entry)) (response-of «safety_data» flags «consumer_id» «monitoring_number») (now (buffer .entry)) ⌝ }
+    ensures answer { λ r.
+        ⌜ r ≡ loopback-answer (K·RecordKind .format) (now (parameters .entry))
+        (response-of «safety_data» flags «consumer_id» «monitoring_number») (now (buffer .entry)) ⌝ }
+    ensures written { λ _.
+        ⌜ now (buffer .exit) ≡ built (K·RecordKind .format) (now (parameters .entry))
+        (response-of «safety_data» flags «consumer_id» «monitoring_number») (now (buffer .entry)) ⌝ }
 {
     let response = Response {
         safety_data,

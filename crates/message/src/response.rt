@@ -62,7 +62,10 @@ fn finish(
     monitoring_number: u32,
 )
     requires { ⌜ size + 25 ≤ length (now buffer) ⌝ }
-    ensures { λ _. ⌜ now (buffer .exit) ≡ with-signature (take size (now (buffer .entry)) ++ trailer flags identities «consumer_id» «monitoring_number») ++ drop (size + 25) (now (buffer .entry)) ⌝ }
+    ensures { λ _.
+        ⌜ now (buffer .exit)
+        ≡ with-signature (take size (now (buffer .entry)) ++ trailer flags identities «consumer_id» «monitoring_number»)
+        ++ drop (size + 25) (now (buffer .entry)) ⌝ }
 {
     buffer[size] = flags;
     put_u32(buffer, size + 1, identities.first);
@@ -78,7 +81,8 @@ impl<K: RecordKind> Response<K> {
     // Builds the response at the start of a buffer and leaves the rest; answers how many octets it has.
     pub fn build(&self, parameters: &Parameters, buffer: &mut [u8]) -> Result<usize, BuildRefusal>
         ensures answer { λ r. ⌜ r ≡ build-answer (K·RecordKind .format) (now (self .entry)) (now (buffer .entry)) ⌝ }
-        ensures written { λ _. ⌜ now (buffer .exit) ≡ built (K·RecordKind .format) (now (parameters .entry)) (now (self .entry)) (now (buffer .entry)) ⌝ }
+        ensures written { λ _.
+            ⌜ now (buffer .exit) ≡ built (K·RecordKind .format) (now (parameters .entry)) (now (self .entry)) (now (buffer .entry)) ⌝ }
     {
         if buffer.len() < LONGEST {
             return Err(BuildRefusal::ShortBuffer);

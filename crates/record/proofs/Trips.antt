@@ -16,7 +16,7 @@ use Rattle.record.specs.declared.fault.EncodeRefusal.the-variants.{Short, Unso
 use Rattle.record.specs.declared.fault.RecordFault.{RecordFault}
 use Rattle.record.specs.declared.round_trip.TripFault.{TripFault}
 use Rattle.record.specs.declared.round_trip.TripFault.the-variants.{Encode}
-use Rattle.record.specs.Calls.{encode-answer, encoded, decoded, reread-answer, recoded, rewritten}
+use Rattle.record.specs.Calls.{encode-answer, encoded, decoded, reread-answer, recoding, recoded, rewritten}
 use Rattle.record.specs.Kind.{Format, Lawful, Encodes}
 use Rattle.record.specs.Octets.{Octets}
 use Rattle.record.proofs.Results.{ok-past, ok-at, ok-is}
@@ -69,13 +69,13 @@ module _ {R : Type 0} (f : Format R) (laws : Lawful f) (r : R) (out : List ℕ) 
     encode-is : encode-answer f r out ≡ cond (ltb (length out) (f .len)) (Err Short) (Ok tt)
     encode-is = simp (rewrites .sound)
 
-    pub rewrite-ok : (u : Unit) → encode-answer f r out ≡ Ok u → Ok r ≡ recoded f out (decoded f s)
+    pub rewrite-ok : (u : Unit) → encode-answer f r out ≡ Ok u → Ok r ≡ recoded f s out
     rewrite-ok u e = let p = had-room u e in simp (h, p .0)
 
-    pub rewrite-err : (x : EncodeRefusal) → encode-answer f r out ≡ Err x → Err (Encode x) ≡ recoded f out (decoded f s)
+    pub rewrite-err : (x : EncodeRefusal) → encode-answer f r out ≡ Err x → Err (Encode x) ≡ recoded f s out
     unfolding recoded-by
     rewrite-err x e =
-        ap (recoded-by r) (sym e ∙ encode-is) ∙ by-room r (ltb (length out) (f .len)) ∙ ap (recoded f out) (sym h)
+        ap (recoded-by r) (sym e ∙ encode-is) ∙ by-room r (ltb (length out) (f .len)) ∙ ap (recoding f out) (sym h)
 
-    pub rewrite-slice : encoded f r out ≡ rewritten f s out (decoded f s)
+    pub rewrite-slice : encoded f r out ≡ rewritten f s out
     rewrite-slice = simp (rewrites .sound, rewrites .octets, h)

@@ -37,11 +37,17 @@ reread-answer f r out =
     cond (ltb (length out) (f .len)) (Err (Encode Short)) (cond (f .sound r) (Ok r) (Err (Encode Unsound)))
 
 -- octets decoded and the record encoded: it never fails for an unsound record
-abbrev pub recoded : {R : Type 0} → Format R → List ℕ → Result R RecordFault → Result R TripFault
-recoded f out (Ok r) = cond (ltb (length out) (f .len)) (Err (Encode Short)) (Ok r)
-recoded f out (Err e) = Err (Decode e)
+abbrev pub recoding : {R : Type 0} → Format R → List ℕ → Result R RecordFault → Result R TripFault
+recoding f out (Ok r) = cond (ltb (length out) (f .len)) (Err (Encode Short)) (Ok r)
+recoding f out (Err e) = Err (Decode e)
+
+abbrev pub recoded : {R : Type 0} → Format R → List ℕ → List ℕ → Result R TripFault
+recoded f s out = recoding f out (decoded f s)
 
 -- what that leaves: the same octets and then the rest, or all as it was
-abbrev pub rewritten : {R : Type 0} → Format R → List ℕ → List ℕ → Result R RecordFault → List ℕ
-rewritten f s out (Ok _) = cond (ltb (length out) (f .len)) out (s ++ drop (f .len) out)
-rewritten f s out (Err _) = out
+abbrev pub rewriting : {R : Type 0} → Format R → List ℕ → List ℕ → Result R RecordFault → List ℕ
+rewriting f s out (Ok _) = cond (ltb (length out) (f .len)) out (s ++ drop (f .len) out)
+rewriting f s out (Err _) = out
+
+abbrev pub rewritten : {R : Type 0} → Format R → List ℕ → List ℕ → List ℕ
+rewritten f s out = rewriting f s out (decoded f s)

@@ -54,8 +54,10 @@ pub fn reread<K: RecordKind>(given: K, out: &mut [u8]) -> Result<K, TripFault>
 
 // Octets into a record and back: of every kind, octets that decode encode to the same octets.
 pub fn rewrite<K: RecordKind>(octets: &[u8], out: &mut [u8]) -> Result<K, TripFault>
-    ensures answer { λ r. ⌜ r ≡ recoded (K·RecordKind .format) (now (out .entry)) (decoded (K·RecordKind .format) (now (octets .entry))) ⌝ }
-    ensures written { λ _. ⌜ now (out .exit) ≡ rewritten (K·RecordKind .format) (now (octets .entry)) (now (out .entry)) (decoded (K·RecordKind .format) (now (octets .entry))) ⌝ }
+    ensures answer { λ r.
+        ⌜ r ≡ recoded (K·RecordKind .format) (now (octets .entry)) (now (out .entry)) ⌝ }
+    ensures written { λ _.
+        ⌜ now (out .exit) ≡ rewritten (K·RecordKind .format) (now (octets .entry)) (now (out .entry)) ⌝ }
 {
     let back = K::decode(octets)?;
     back.encode(out)?;

@@ -1,0 +1,5 @@
+pub mod Lanes
+pub mod Place
+pub mod Fetch
+pub mod Numbers
+pub mod Cells
