@@ -1,0 +1,2 @@
+// A provider and a consumer over a carrier, and what holds of every run of the two.
+pub mod laws;

@@ -1,0 +1,2 @@
+// The provider: it answers requests with the record that its program gives it.
+pub mod answer;
