@@ -111,7 +111,7 @@ module _ (a : Lanes) where
   fixed-fetch l true = same-fixed a
   fixed-fetch l false = fixed-with l (rest-of (lane-of l a)) a
 
-  steady-got : (l : Lane) (b : Lanes) → Lengthy (first-of (lane-of l a)) → b ≡ steady-fetch l a → Got l a b (first-of (lane-of l a))
+  pub steady-got : (l : Lane) (b : Lanes) → Lengthy (first-of (lane-of l a)) → b ≡ steady-fetch l a → Got l a b (first-of (lane-of l a))
   steady-got l b h e = rw e (record {
     came = first-came l a (lane-of l a) refl h;
     up = up-by l (a .standing);

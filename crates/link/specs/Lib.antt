@@ -1,3 +1,4 @@
 pub mod Words
 pub mod Runs
 pub mod Laws
+pub mod Examples

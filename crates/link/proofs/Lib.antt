@@ -1,0 +1,3 @@
+mod Holds
+mod Steadily
+mod Happening
