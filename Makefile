@@ -1,13 +1,15 @@
-# readout: one reading signed, sent and checked, octet by octet (proves what it runs first)
+# draw:    one litre over a network that holds a response back, action by action
+# readout: one reading signed, sent and checked, octet by octet
 # test:    the gate: every proof from nothing, every edit that must be refused, every program and test
 # speed:   the signature beside the same in C
 
-.PHONY: readout test speed
+.PHONY: draw readout test speed
 
-readout:
+# a program is proved before it is run; what has not changed is not proved again
+draw readout:
 	@mkdir -p target
-	@rt check readout > target/readout.log 2>&1 || { cat target/readout.log; exit 1; }
-	@target/bin/readout
+	@rt check $@ > target/$@.log 2>&1 || { cat target/$@.log; exit 1; }
+	@target/bin/$@
 
 test:
 	@rt ci

@@ -1,11 +1,12 @@
 -- What the answer of a fetch tells its caller.
-use mathlib.Core.Path.{_≡_, refl}
+use mathlib.Core.Path.{_≡_, refl, ap, _∙_}
 use mathlib.Core.Bool.{Bool, true, false}
 use mathlib.Core.List.{List}
-use Prim.Native.Nat.{ℕ}
+use Prim.Native.Nat.{ℕ, _-_}
 use native.Mathlib.Omega.{arith}
 use lib.Dec.{ltb}
-use lib.ListN.{length}
+use lib.ListN.{length, take, drop}
+use Rattle.std.proofs.shelf.Lists.{take-at}
 use Rattle.std.specs.declared.option.Option.the-variants.{Some, None}
 use Rattle.std.specs.declared.result.Result.the-variants.{Ok, Err}
 use Rattle.carrier.specs.declared.lane.Lane.{Lane}
@@ -46,3 +47,7 @@ module _ (l : Lane) (before after : Lanes) (buffer buffer′ : List ℕ) where
   -- none came: the lanes, and the buffer as it was
   pub fetched-none : Fetched l before after buffer buffer′ (Ok None) → Got l before after None × (buffer′ ≡ buffer)
   fetched-none f = none-by (ltb (length buffer) longest) refl f
+
+-- the octets up to the answered length are the message
+pub fetched-octets : (m s t : List ℕ) (n : ℕ) → n ≡ length m → t ≡ brought-in (Some m) s → take (n - 0) t ≡ m
+fetched-octets m s t n e w = ap (take (n - 0)) w ∙ take-at m (drop (length m) s) (n - 0) (omega arith)

@@ -1,3 +1,4 @@
 pub mod Fetches
+pub mod Places
 pub mod Steady
 pub mod Cells

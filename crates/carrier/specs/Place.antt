@@ -16,6 +16,11 @@ use Rattle.message.specs.Response.{longest}
 abbrev pub Answer : Type 0
 Answer = Result Unit PlaceRefusal
 
+-- the answer to a message of lawful length: taken, or full
+abbrev pub place-answer : Bool → Answer
+place-answer true = Ok tt
+place-answer false = Err Full
+
 -- a message has from 1 to 1,525 octets
 abbrev pub sendable : Message → Bool
 sendable m = leb 1 (length m) && leb (length m) longest

@@ -1,2 +1,4 @@
 pub mod Judgment
 pub mod Steps
+pub mod Cycled
+pub mod Making

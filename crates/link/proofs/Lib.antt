@@ -1,3 +1,14 @@
-mod Holds
-mod Steadily
+mod Carries
+mod Fields
+mod Freshness
 mod Happening
+mod Holds
+mod Origins
+mod Prompts
+mod Replies
+mod Requests
+mod Steadily
+mod Steady
+mod Turns
+mod Verdicts
+mod Whole

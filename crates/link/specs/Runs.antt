@@ -17,6 +17,9 @@ use Rattle.link.specs.Words.{CycleAnswer, Setup, State, TimedRequest, Inputs, 
 use Rattle.link.specs.Words.{ResponseFlags, Identities, Parameters, Response, identities-of, request-octets, response-octets, sound, u32-at}
 use Rattle.link.specs.Words.{ServeAnswer, ServeRefusal, Memory, reply, remembered, told}
 use Rattle.link.specs.Words.{Format, Octets}
+pub use Rattle.carrier.specs.Place.{place-answer}
+pub use Rattle.consumer.specs.Cycled.{FetchedIf, Sent}
+pub use Rattle.provider.specs.Served.{Replied}
 
 -- one call, with its arguments, what its fetch brought, whether what it placed was taken, and its answer
 pub data Call (R : Type 0) : Type 0 where
@@ -77,26 +80,6 @@ abbrev pub Strange : {R : Type 0} → Format R → Parameters → Lane → Messa
 Strange f p Up m = Octets m × (length m ≡ 9 → u32-at m 0 ≡ p .«consumer_id» → ⊥)
 Strange f p Down m =
     Octets m × (sound m ≡ true → length m ≡ f .len + 25 → identities-in (f .len) m ≡ identities-of f p → ⊥)
-
--- how a place of a message of lawful length is answered
-abbrev pub place-answer : Bool → Result Unit PlaceRefusal
-place-answer true = Ok tt
-place-answer false = Err Full
-
--- a fetch, if there is one
-abbrev pub FetchedIf : Bool → Lane → Lanes → Brought → Lanes → Type 0
-FetchedIf true l before b after = Got l before after b
-FetchedIf false l before b after = (b ≡ None) × (after ≡ before)
-
--- the request that was made, if any, is placed on the up lane; full counts as lost
-abbrev pub Sent : Lanes → Option TimedRequest → Bool → Lanes → Type 0
-Sent before None taken after = (taken ≡ false) × (after ≡ before)
-Sent before (Some q) taken after = Placed Up (request-octets (q .request)) before after (place-answer taken)
-
--- the response, if any, is placed on the down lane
-abbrev pub Replied : {R : Type 0} → Format R → Parameters → Lanes → Option (Response R) → Bool → Lanes → Type 0
-Replied f p before None taken after = (taken ≡ false) × (after ≡ before)
-Replied f p before (Some r) taken after = Placed Down (response-octets f p r) before after (place-answer taken)
 
 -- a cycle: at most one fetch, then the request that it made; `between` are the lanes between the two
 pub record CycleHappens {R : Type 0} (f : Format R) (s : Setup) (c : State R) (before : Lanes) (i : Inputs) (b : Brought) (taken : Bool)

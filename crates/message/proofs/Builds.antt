@@ -12,6 +12,7 @@ use Rattle.std.proofs.shelf.Tests.{le-ltb}
 use Rattle.std.specs.declared.result.Result.the-variants.{Ok}
 use Rattle.message.specs.declared.identity.Identities.{Identities}
 use Rattle.message.specs.declared.parameters.Parameters.{Parameters}
+use Rattle.message.specs.declared.response.BuildRefusal.the-variants.{ShortBuffer, UnsoundRecord}
 use Rattle.message.specs.declared.response.Response.{Response}
 use Rattle.message.specs.Flags.{response-octet}
 use Rattle.message.specs.Identity.{identities-of}
@@ -20,6 +21,7 @@ use Rattle.message.specs.Response.{trailer, with-signature, longest, response-
 use Rattle.record.specs.Calls.{encode-answer, encoded}
 use Rattle.record.specs.Kind.{Format, Lawful}
 use Rattle.record.specs.Octets.{le}
+use Rattle.record.proofs.Results.{ok-past, ok-at, ok-is}
 use Rattle.record.proofs.Trips.{had-room}
 use Rattle.signature.specs.Signature.{signature}
 
@@ -110,3 +112,36 @@ module _ {R : Type 0} (f : Format R) (laws : Lawful f) (p : Parameters) (r : Res
       sym (drop-drop 25 n b) ∙ ap (λ x. drop 25 (drop n x)) at ∙ ap (drop 25) (drop-at s (drop n d) n long) ∙ drop-drop 25 n d in
       let all : b2 ≡ response-octets f p r ++ drop (n + 25) d = rw (front, rest, hf, hi) at w in
       simp (le-ltb (length d) longest large, sound) (all ∙ ap (λ k. response-octets f p r ++ drop (k + 25) d) is)
+
+-- a response has 25 octets more than its record
+pub response-long : {R : Type 0} (f : Format R) (laws : Lawful f) (p : Parameters) (r : Response R) → f .sound (r .«safety_data») ≡ true
+    → length (response-octets f p r) ≡ f .len + 25
+unfolding with-signature
+response-long f laws p r ok =
+    let s = f .octets (r .«safety_data») in
+    let whole = laws .whole (r .«safety_data») ok in
+    let t = trailer (response-octet (r .flags)) (identities-of f p) (r .«consumer_id») (r .«monitoring_number») in
+    length-append (s ++ t) (le 4 (signature (s ++ t))) ∙ ap (λ n. n + 4) (length-append s t) ∙ omega (arith, whole)
+
+-- where a response was built, it stands at the start of the buffer, from the first octet to the last
+module _ {R : Type 0} (f : Format R) (laws : Lawful f) (p : Parameters) (r : Response R) (d b : List ℕ) (end : ℕ)
+    (ok : build-answer f r d ≡ Ok end) (is : b ≡ built f p r d) where
+  pub built-large : ltb (length d) longest ≡ false
+  built-large = ok-past (ltb (length d) longest) ShortBuffer _ end ok .0
+
+  sound-and-end : (f .sound (r .«safety_data») ≡ true) × (f .len + 25 ≡ end)
+  sound-and-end =
+      let rest = ok-past (ltb (length d) longest) ShortBuffer _ end ok .1 in
+      let e = ok-at (f .sound (r .«safety_data»)) UnsoundRecord (Ok (f .len + 25)) end rest in
+      (e .0, ok-is (e .1))
+
+  pub built-sound : f .sound (r .«safety_data») ≡ true
+  built-sound = sound-and-end .0
+
+  pub built-start : b ≡ response-octets f p r ++ drop (f .len + 25) d
+  built-start = is ∙ simp (built-large, sound-and-end .0)
+
+  pub built-message : take (end - 0) b ≡ response-octets f p r
+  built-message =
+      let whole = response-long f laws p r (sound-and-end .0) in
+      rw (sub-zero, built-start) (take-at (response-octets f p r) (drop (f .len + 25) d) end (whole ∙ sound-and-end .1))

@@ -1,4 +1,4 @@
 mod Fours
-mod Builds
+pub mod Builds
 pub mod ReadBack
 mod Loops

@@ -1,49 +1,37 @@
 -- What is built and judged at once comes back.
-use mathlib.Core.Path.{_≡_, refl, sym, ap, _∙_}
+use mathlib.Core.Path.{_≡_, sym, ap, _∙_}
 use mathlib.Core.Bool.{Bool, true, false, cond}
-use mathlib.Core.List.{List, _++_}
+use mathlib.Core.List.{List}
 use Prim.Native.Nat.{ℕ, _+_, _-_, _^_, _<_}
-use native.Mathlib.Nat.{sub-zero}
 use native.Mathlib.Omega.{arith}
 use lib.Dec.{ltb, eqb}
-use lib.ListN.{length, take, drop}
-use Rattle.std.proofs.shelf.Lists.{take-at}
+use lib.ListN.{length, take}
 use Rattle.std.specs.declared.result.Result.the-variants.{Ok, Err}
 use Rattle.message.specs.declared.check.Checked.{Checked}
 use Rattle.message.specs.declared.fault.MessageFault.{MessageFault}
 use Rattle.message.specs.declared.fault.MessageFault.the-variants.{Consumer}
 use Rattle.message.specs.declared.loopback.LoopbackFault.the-variants.{Judge}
 use Rattle.message.specs.declared.parameters.Parameters.{Parameters}
-use Rattle.message.specs.declared.response.BuildRefusal.the-variants.{ShortBuffer, UnsoundRecord}
 use Rattle.message.specs.declared.response.Response.{Response}
 use Rattle.message.specs.Check.{checked, record-read}
 use Rattle.message.specs.Loopback.{returned, loopback-answer}
 use Rattle.message.specs.Response.{longest, response-octets, build-answer, built}
 use Rattle.record.specs.Kind.{Format, Lawful}
-use Rattle.record.proofs.Results.{ok-past, ok-at, ok-is, err-past}
-use Rattle.message.proofs.ReadBack.{long, checked-is, record-is}
+use Rattle.record.proofs.Results.{ok-at, ok-is, err-past}
+use Rattle.message.proofs.Builds.{built-large, built-sound, built-message}
+use Rattle.message.proofs.ReadBack.{checked-is, record-is}
 
 module _ {R : Type 0} (f : Format R) (laws : Lawful f) (p : Parameters) (r : Response R)
     (few-consumer : r .«consumer_id» < 2 ^ 32) (few-number : r .«monitoring_number» < 2 ^ 32)
     (d b : List ℕ) (end : ℕ) (ok : build-answer f r d ≡ Ok end) (is : b ≡ built f p r d) where
   large : ltb (length d) longest ≡ false
-  large = ok-past (ltb (length d) longest) ShortBuffer _ end ok .0
-
-  sound-and-end : (f .sound (r .«safety_data») ≡ true) × (f .len + 25 ≡ end)
-  sound-and-end =
-      let e = ok-at (f .sound (r .«safety_data»)) UnsoundRecord (Ok (f .len + 25)) end (ok-past (ltb (length d) longest) ShortBuffer _ end ok .1) in
-      (e .0, ok-is (e .1))
+  large = built-large f laws p r d b end ok is
 
   sound : f .sound (r .«safety_data») ≡ true
-  sound = sound-and-end .0
+  sound = built-sound f laws p r d b end ok is
 
-  -- the octets from the start to the end of the message are the response
   message : take (end - 0) b ≡ response-octets f p r
-  message =
-      let at : end ≡ f .len + 25 = sym (sound-and-end .1) in
-      let whole = long f laws p r sound few-consumer few-number (response-octets f p r) refl in
-      let at-start : b ≡ response-octets f p r ++ drop (f .len + 25) d = is ∙ simp (large, sound) in
-      rw (sub-zero, at-start) (take-at (response-octets f p r) (drop (f .len + 25) d) end (whole ∙ sym at))
+  message = built-message f laws p r d b end ok is
 
   abbrev for-us : Bool
   for-us = eqb (r .«consumer_id») (p .«consumer_id»)

@@ -26,6 +26,7 @@ use Rattle.record.specs.Octets.{Octets, le, un, bit}
 use Rattle.record.proofs.Octets.{un-le, octets-le, octets-append}
 use Rattle.signature.specs.Signature.{octet-step, remainder, signature}
 use Rattle.signature.proofs.Register.{bit-steps-lt}
+use Rattle.message.proofs.Builds.{response-long}
 
 -- three flags go into an octet and back
 flags-back : (a b c : Bool)
@@ -94,8 +95,7 @@ module _ {R : Type 0} (f : Format R) (laws : Lawful f) (p : Parameters) (r : Res
   split = is ∙ append-assoc front tail (le 4 crc)
 
   pub long : length m ≡ f .len + 25
-  unfolding n tail
-  long = ap length split ∙ length-append front (tail ++ le 4 crc) ∙ omega (arith, whole)
+  long = ap length is ∙ response-long f laws p r sound
 
   -- what the signature covers
   covered : take (n + 21) m ≡ front ++ tail

@@ -10,6 +10,7 @@ use Rattle.std.specs.declared.result.Result.the-variants.{Ok, Err}
 use Rattle.carrier.specs.Fetch.{Brought}
 use Rattle.message.specs.declared.flags.ResponseFlags.{ResponseFlags}
 use Rattle.message.specs.declared.request.Request.{Request}
+use Rattle.message.specs.declared.response.BuildRefusal.{BuildRefusal}
 use Rattle.message.specs.declared.response.Response.{Response}
 use Rattle.message.specs.Layout.{request-read}
 use Rattle.message.specs.Response.{response-of}
@@ -24,6 +25,11 @@ serve-number ShortBuffer = 7
 serve-number UnsoundRecord = 8
 serve-number NotARequest = 11
 serve-number Full = 10
+
+-- a refusal to build, as one to serve
+abbrev pub refused-building : BuildRefusal → ServeRefusal
+refused-building BuildRefusal.ShortBuffer = ShortBuffer
+refused-building BuildRefusal.UnsoundRecord = UnsoundRecord
 
 -- the response that went out last, if any
 abbrev pub Memory : Type 0 → Type 0

@@ -1,6 +1,7 @@
 ghost use mathlib.Core.Path.{_≡_};
-ghost use Rattle.provider.specs.Serve.{serve-number};
+ghost use Rattle.provider.specs.Serve.{serve-number, refused-building};
 use message::request::Request;
+use message::response::BuildRefusal;
 
 // What a serve did.
 #[derive(Clone, Copy)]
@@ -35,6 +36,17 @@ impl ServeRefusal {
             ServeRefusal::UnsoundRecord => 8,
             ServeRefusal::NotARequest => 11,
             ServeRefusal::Full => 10,
+        }
+    }
+}
+
+pub impl From<BuildRefusal> for ServeRefusal as ServeRefusalFromBuild {
+    ghost converts = { λ e r. r ≡ refused-building e };
+
+    fn from(e: BuildRefusal) -> ServeRefusal {
+        match e {
+            BuildRefusal::ShortBuffer => ServeRefusal::ShortBuffer,
+            BuildRefusal::UnsoundRecord => ServeRefusal::UnsoundRecord,
         }
     }
 }

@@ -1,2 +1,3 @@
 // The provider: it answers requests with the record that its program gives it.
 pub mod answer;
+pub mod provider;

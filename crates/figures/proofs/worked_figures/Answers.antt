@@ -10,4 +10,8 @@ returns c = record {
   meter = refl;
   run = refl;
   tag = λ rest. refl;
+  alive = λ p c q timeout before at. simp (timeout, before, at);
+  expired = λ p c q timeout before at. simp (timeout, before, at);
+  hold = λ p c x interval before none. simp (interval, before, none);
+  no-hold = λ p c x interval before none. simp (interval, before, none);
 }

@@ -1,0 +1,4 @@
+mod Scripts
+mod Layers
+mod Carries
+mod Disturbs
