@@ -1,4 +1,6 @@
 // The calling carrier: each lane is a chain of slots in a memory that is lent to it.
+#![tactic(auto)]
+
 ghost use Rattle.std.specs.Prelude.{◌≡◌, false};
 ghost use Rattle.calling.specs.Meaning.{meaning, memory_of, both_whole, made_over, TakesNothing, BringsNothing};
 ghost use Rattle.carrier.specs.Place.{Placed};

@@ -1,4 +1,6 @@
 // Carriers: what a network may do with the messages that two ends hand to it, and one that is made of two cells.
+#![tactic(auto)]
+
 ghost use Rattle.carrier.specs.Lanes.{Lanes, HasSlots};
 ghost use Rattle.carrier.specs.Place.{Placed};
 ghost use Rattle.carrier.specs.Fetch.{Fetched};

@@ -1,4 +1,6 @@
 // Tests of carriers on examples: lanes that fill and wrap, every refusal, and every code of a disturber.
+#![tactic(auto)]
+
 #[cfg(test)]
 mod calls;
 #[cfg(test)]

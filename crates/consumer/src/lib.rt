@@ -1,4 +1,6 @@
 // The consumer: it asks its provider, judges what comes, and shows a record or the fail-safe substitute.
+#![tactic(auto)]
+
 pub mod consumer;
 pub mod event;
 pub mod fault;

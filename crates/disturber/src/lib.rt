@@ -1,4 +1,6 @@
 // A layer over any carrier that disturbs its down lane by a script: it passes, loses, repeats or damages what comes.
+#![tactic(auto)]
+
 ghost use Rattle.std.specs.Prelude.{◌≡◌, ◌≤◌, length};
 ghost use Rattle.carrier.specs.Fetch.{Fetched};
 ghost use Rattle.carrier.specs.Place.{Placed};

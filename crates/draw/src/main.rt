@@ -1,4 +1,6 @@
 // One litre drawn through a meter on the proving skid, by the count that the link shows.
+#![tactic(auto)]
+
 mod bay;
 mod litre;
 mod skid;

@@ -1,4 +1,6 @@
 // Tests of links on examples: every refusal, fault and ignored message, serves, expiry, holds and acknowledgment.
+#![tactic(auto)]
+
 #[cfg(test)]
 mod common;
 #[cfg(test)]

@@ -1,4 +1,6 @@
 // Runs scripts of calls on links, from standard input or from files, and prints each answer.
+#![tactic(auto)]
+
 mod bench;
 mod making;
 mod setup;

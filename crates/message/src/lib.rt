@@ -1,4 +1,6 @@
 // Messages between the two ends of a link: what they are made of, how they are built and how they are judged.
+#![tactic(auto)]
+
 pub mod check;
 pub mod fault;
 pub mod flags;

@@ -1,4 +1,6 @@
 // Tests of records and messages on examples: every limit, every refusal and every fault.
+#![tactic(auto)]
+
 #[cfg(test)]
 mod building;
 #[cfg(test)]

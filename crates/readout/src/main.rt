@@ -1,4 +1,6 @@
 // Signs one meter reading for one request and shows every octet on the way; then damages the response octet by octet.
+#![tactic(auto)]
+
 mod bay;
 mod damage;
 mod exchange;

@@ -1,4 +1,6 @@
 // One request up and one response down over each carrier, and what comes of them.
+#![tactic(auto)]
+
 mod carriers;
 mod messages;
 mod relay;

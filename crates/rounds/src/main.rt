@@ -1,5 +1,7 @@
 // How fast a link is: a million rounds, each one enabled cycle and one serve, over the calling carrier, for the meter
 // record and for the longest record that there is.
+#![tactic(auto)]
+
 mod block;
 mod chained;
 mod run;

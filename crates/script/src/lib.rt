@@ -1,4 +1,6 @@
 // The words of a script of calls on a link: what a line asks, and how an answer is written.
+#![tactic(auto)]
+
 mod calls;
 mod capitals;
 pub mod expected;

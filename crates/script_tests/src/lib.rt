@@ -1,4 +1,6 @@
 // Tests of lines and answers on examples: every bad line, the limits of numbers, and what is printed.
+#![tactic(auto)]
+
 #[cfg(test)]
 mod amounts;
 #[cfg(test)]

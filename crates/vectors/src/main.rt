@@ -1,4 +1,6 @@
 // Compares what the libraries give with values from outside: worked examples, stock tools, and a second way to divide.
+#![tactic(auto)]
+
 mod division;
 mod encodings;
 mod identities;

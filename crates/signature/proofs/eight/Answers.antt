@@ -9,4 +9,4 @@ returns c =
     let w : ℕ = bit_xor c.args.register c.args.high in
     let less = bit_steps_lt 32 w (xor_lt 32 c.args.register c.args.high (omega arith) (omega arith)) in
     let sum = bit_steps_xor 32 (bit_steps 32 w) c.args.low less (omega arith) in
-    cc (xor_comm c.four.result c.four-of-eight.result)
+    cc (xor_comm c.four.result c.four_of_eight.result)

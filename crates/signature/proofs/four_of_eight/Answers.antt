@@ -6,5 +6,5 @@ use Rattle.signature.proofs.four_of_eight.Goals as goal
 pub returns : goal.returns
 returns c =
     let less = xor_lt 32 c.args.register c.args.word (omega arith) (omega arith) in
-    four_by_rows 32 (bit_xor c.args.register c.args.word) c.to-le-bytes.result less c.to-le-bytes.ensures
+    four_by_rows 32 (bit_xor c.args.register c.args.word) c.to_le_bytes.result less c.to_le_bytes.ensures
     c.row.ensures c.row-2.ensures c.row-3.ensures c.row-4.ensures

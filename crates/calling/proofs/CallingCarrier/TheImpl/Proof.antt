@@ -55,16 +55,16 @@ module _ (a b m n : NamedLft) (p : a.lft ⊑ m.lft) (q : b.lft ⊑ n.lft) where
       let s = τs.1.1.0 in
       let up : s ⊑ a.lft = ⊑_trans s row.lives a.lft h.1.0 (search inside depth 24 fits 20000) in
       let down : s ⊑ b.lft = ⊑_trans s row.lives b.lft h.1.0 (search inside depth 24 fits 20000) in
-      let up-memory : s ⊑ m.lft = ⊑_trans s a.lft m.lft up p in
-      let down-memory : s ⊑ n.lft = ⊑_trans s b.lft n.lft down q in (
-        (⊑_refl τs.0, (up, (down, (up-memory, (down-memory, (⊑_refl τs.1.0, tt)))))),
+      let up_memory : s ⊑ m.lft = ⊑_trans s a.lft m.lft up p in
+      let down_memory : s ⊑ n.lft = ⊑_trans s b.lft n.lft down q in (
+        (⊑_refl τs.0, (up, (down, (up_memory, (down_memory, (⊑_refl τs.1.0, tt)))))),
         (
           ⊑_trans τs.0 s a.lft h.0.0 up,
           (
             ⊑_trans τs.0 s b.lft h.0.0 down,
             (
-              ⊑_trans τs.0 s m.lft h.0.0 up-memory,
-              (⊑_trans τs.0 s n.lft h.0.0 down-memory, (p, (q, tt))),
+              ⊑_trans τs.0 s m.lft h.0.0 up_memory,
+              (⊑_trans τs.0 s n.lft h.0.0 down_memory, (p, (q, tt))),
             ),
           ),
         ),

@@ -5,8 +5,8 @@ use Rattle.calling.proofs.Meanings.{brings}
 use Rattle.calling.proofs.CallingCarrier.fetch.Goals as goal
 use Rattle.carrier.specs.declared.lane.Lane.TheVariants.{Up, Down}
 
-pub returns-then-not-is-steady : goal.returns-then-not-is-steady
-returns-then-not-is-steady c = search rules
+pub returns-then-not-is_steady : goal.returns-then-not-is_steady
+returns-then-not-is_steady c = search rules
 
 pub returns-in-Up : goal.returns-in-Up
 returns-in-Up c =

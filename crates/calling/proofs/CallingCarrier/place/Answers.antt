@@ -5,8 +5,8 @@ use Rattle.calling.proofs.Meanings.{places}
 use Rattle.calling.proofs.CallingCarrier.place.Goals as goal
 use Rattle.carrier.specs.declared.lane.Lane.TheVariants.{Up, Down}
 
-pub returns-then-not-is-steady : goal.returns-then-not-is-steady
-returns-then-not-is-steady c = search rules
+pub returns-then-not-is_steady : goal.returns-then-not-is_steady
+returns-then-not-is_steady c = search rules
 
 pub returns-in-Up : goal.returns-in-Up
 returns-in-Up c =
@@ -14,7 +14,7 @@ returns-in-Up c =
     record {
       carries = rw c.in-Up.is
           (places Up (up_store k) (down_store k) (stored c.place.new.self.memory) c.args.message.now c.place.result
-          (omega arith, omega arith) c.if-not-is-steady.ensures c.place.ensures);
+          (omega arith, omega arith) c.if-not-is_steady.ensures c.place.ensures);
       unsteady = search rules;
     }
 
@@ -24,6 +24,6 @@ returns-in-Down c =
     record {
       carries = rw c.in-Down.is
           (places Down (up_store k) (down_store k) (stored c.place-in-Down.new.self.memory) c.args.message.now
-          c.place-in-Down.result (omega arith, omega arith) c.if-not-is-steady.ensures c.place-in-Down.ensures);
+          c.place-in-Down.result (omega arith, omega arith) c.if-not-is_steady.ensures c.place-in-Down.ensures);
       unsteady = search rules;
     }

@@ -14,14 +14,14 @@ decides : (asked : ℕ) (k : Checked) (x : Result Checked MessageFault) (read y 
     → k.monitoring_number ≡ asked → shown k read ≡ judgment asked x y
 decides asked k x read y hx hy same = rw (← hx, ← hy, eq-eqb k.monitoring_number asked same)
 
-pub returns-in-err-reading : goal.returns-in-err-reading
-returns-in-err-reading c =
-    let out = err_from_is_err_and c.from-residual-in-err-reading.result c.from-residual-in-err-reading.ensures.1 in
+pub returns-in_err-reading : goal.returns-in_err-reading
+returns-in_err-reading c =
+    let out = err_from_is_err_and c.from_residual-in_err-reading.result c.from_residual-in_err-reading.ensures.1 in
     out.1 ∙ ap Err out.2
-    ∙ decides c.args.request.now.monitoring_number c.in-ok-passed.passed (checked meter_format c.args.parameters.now c.args.message.now) (Err c.in-err-reading.field-0.0) _
-    c.in-ok-passed.ensures c.in-err-reading.ensures c.if-passed-request.false
+    ∙ decides c.args.request.now.monitoring_number c.in_ok-passed.passed (checked meter_format c.args.parameters.now c.args.message.now) (Err c.in_err-reading.field-0.0) _
+    c.in_ok-passed.ensures c.in_err-reading.ensures c.if-passed-request.false
 
 pub returns : goal.returns
 returns c =
-    decides c.args.request.now.monitoring_number c.in-ok-passed.passed (checked meter_format c.args.parameters.now c.args.message.now) (Ok c.in-ok-reading.reading) _
-    c.in-ok-passed.ensures c.in-ok-reading.ensures c.if-passed-request.false
+    decides c.args.request.now.monitoring_number c.in_ok-passed.passed (checked meter_format c.args.parameters.now c.args.message.now) (Ok c.in_ok-reading.reading) _
+    c.in_ok-passed.ensures c.in_ok-reading.ensures c.if-passed-request.false

@@ -12,6 +12,6 @@ four_written n = simp div-div-eq-div-mul
 
 pub returns : goal.returns
 returns c =
-    put_mid-paste 28 4 c.args.message c.copy-from-slice.new.self (le 4 (signature (take 28 c.args.message))) 4
-    (c.copy-from-slice.ensures.after ∙ c.to-le-bytes.ensures ∙ four_written c.signature-signature.result ∙ ap (le 4) c.signature-signature.ensures) (omega arith) refl
+    put_mid-paste 28 4 c.args.message c.copy_from_slice.new.self (le 4 (signature (take 28 c.args.message))) 4
+    (c.copy_from_slice.ensures.after ∙ c.to_le_bytes.ensures ∙ four_written c.signature-signature.result ∙ ap (le 4) c.signature-signature.ensures) (omega arith) refl
     ∙ append_assoc (take 28 c.args.message) (le 4 (signature (take 28 c.args.message))) (drop 32 c.args.message)

@@ -6,15 +6,15 @@ pub returns : goal.returns
 returns g c =
     record {
       answer = reread_ok g.K.RecordKind.format g.met.K.RecordKind.lawful c.args.given c.args.out.now
-          c.in-ok-encode.field-0 c.encode.new.out c.octet-length-length.result
-          (sym c.encode.ensures.answer ∙ c.in-ok-encode.was) c.encode.ensures.written c.octet-length-length.ensures
-          c.in-ok-back.back (sym c.decode.ensures ∙ c.in-ok-back.was);
+          c.in_ok-encode.field-0 c.encode.new.out c.octet_length-length.result
+          (sym c.encode.ensures.answer ∙ c.in_ok-encode.was) c.encode.ensures.written c.octet_length-length.ensures
+          c.in_ok-back.back (sym c.decode.ensures ∙ c.in_ok-back.was);
       written = c.encode.ensures.written;
     }
 
-pub returns-in-err-back : goal.returns-in-err-back
-returns-in-err-back g c =
+pub returns-in_err-back : goal.returns-in_err-back
+returns-in_err-back g c =
     absurd (reread_err g.K.RecordKind.format g.met.K.RecordKind.lawful c.args.given c.args.out.now
-    c.in-ok-encode.field-0 c.encode.new.out c.octet-length-length.result
-    (sym c.encode.ensures.answer ∙ c.in-ok-encode.was) c.encode.ensures.written c.octet-length-length.ensures
-    c.in-err-back.field-0.0 (sym c.decode.ensures ∙ c.in-err-back.was))
+    c.in_ok-encode.field-0 c.encode.new.out c.octet_length-length.result
+    (sym c.encode.ensures.answer ∙ c.in_ok-encode.was) c.encode.ensures.written c.octet_length-length.ensures
+    c.in_err-back.field-0.0 (sym c.decode.ensures ∙ c.in_err-back.was))

@@ -8,28 +8,28 @@ pub returns : goal.returns
 returns g c =
     let f = g.K.RecordKind.format in
     let laws = g.met.K.RecordKind.lawful in
-    let o = octets_of c.args.octets.now c.type-inv.octets in
+    let o = octets_of c.args.octets.now c.ok.octets in
     record {
-      answer = rewrite_ok f laws c.in-ok-back.back c.args.out.now c.args.octets.now o
-          (sym c.decode.ensures ∙ c.in-ok-back.was)
-          c.in-ok-encode.field-0 (sym c.encode.ensures.answer ∙ c.in-ok-encode.was);
+      answer = rewrite_ok f laws c.in_ok-back.back c.args.out.now c.args.octets.now o
+          (sym c.decode.ensures ∙ c.in_ok-back.was)
+          c.in_ok-encode.field-0 (sym c.encode.ensures.answer ∙ c.in_ok-encode.was);
       written = c.encode.ensures.written
-          ∙ rewrite_slice f laws c.in-ok-back.back c.args.out.now c.args.octets.now o
-          (sym c.decode.ensures ∙ c.in-ok-back.was);
+          ∙ rewrite_slice f laws c.in_ok-back.back c.args.out.now c.args.octets.now o
+          (sym c.decode.ensures ∙ c.in_ok-back.was);
     }
 
-pub returns-in-err-encode : goal.returns-in-err-encode
-returns-in-err-encode g c =
+pub returns-in_err-encode : goal.returns-in_err-encode
+returns-in_err-encode g c =
     let f = g.K.RecordKind.format in
     let laws = g.met.K.RecordKind.lawful in
-    let o = octets_of c.args.octets.now c.type-inv.octets in
-    let p = err_from_is_err_and c.from-residual-in-err-encode.result c.from-residual-in-err-encode.ensures.1 in
+    let o = octets_of c.args.octets.now c.type_inv.octets in
+    let p = err_from_is_err_and c.from_residual-in_err-encode.result c.from_residual-in_err-encode.ensures.1 in
     record {
       answer = p.1 ∙ ap Err p.2
-          ∙ rewrite_err f laws c.in-ok-back.back c.args.out.now c.args.octets.now o
-          (sym c.decode.ensures ∙ c.in-ok-back.was)
-          c.in-err-encode.field-0.0 (sym c.encode.ensures.answer ∙ c.in-err-encode.was);
+          ∙ rewrite_err f laws c.in_ok-back.back c.args.out.now c.args.octets.now o
+          (sym c.decode.ensures ∙ c.in_ok-back.was)
+          c.in_err-encode.field-0.0 (sym c.encode.ensures.answer ∙ c.in_err-encode.was);
       written = c.encode.ensures.written
-          ∙ rewrite_slice f laws c.in-ok-back.back c.args.out.now c.args.octets.now o
-          (sym c.decode.ensures ∙ c.in-ok-back.was);
+          ∙ rewrite_slice f laws c.in_ok-back.back c.args.out.now c.args.octets.now o
+          (sym c.decode.ensures ∙ c.in_ok-back.was);
     }

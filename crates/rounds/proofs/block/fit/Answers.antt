@@ -7,4 +7,4 @@ pub returns : goal.returns
 returns c =
     let octets = c.args.octets.now in
     let counted = ap (λ n. eqb n 1500) c.count.ensures in
-    record { meaning = counted ∙ fit_by_length octets (octets_of octets c.type-inv.octets); counted = counted }
+    record { meaning = counted ∙ fit_by_length octets (octets_of octets c.type_inv.octets); counted = counted }

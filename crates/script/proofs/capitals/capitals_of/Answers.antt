@@ -11,14 +11,14 @@ loop-octet-preserved c =
     let t₂ = string_bytes c.push-in-loop-octet.new.self in
     let os = c.args.octets.now in
     let i = c.loop-octet.octet-index in
-    let high = c.capital-of.ensures in
-    let low = c.capital-of-in-loop-octet.ensures in
-    let first = c.in-ok-push.ensures in
-    let second = c.in-ok-push-2.ensures in
-    let e₁ = letter_pushed t₀ t₁ c.capital-of.result (capital (get_or os i 0 / 16)) (encode c.capital-of.result)
+    let high = c.capital_of.ensures in
+    let low = c.capital_of-in-loop-octet.ensures in
+    let first = c.in_ok-push.ensures in
+    let second = c.in_ok-push-2.ensures in
+    let e₁ = letter_pushed t₀ t₁ c.capital_of.result (capital (get_or os i 0 / 16)) (encode c.capital_of.result)
     first.bytes (first.ascii high.ascii) high.letter in
-    let e₂ = letter_pushed t₁ t₂ c.capital-of-in-loop-octet.result (capital (get_or os i 0 % 16))
-    (encode c.capital-of-in-loop-octet.result) second.bytes (second.ascii low.ascii) low.letter in
+    let e₂ = letter_pushed t₁ t₂ c.capital_of-in-loop-octet.result (capital (get_or os i 0 % 16))
+    (encode c.capital_of-in-loop-octet.result) second.bytes (second.ascii low.ascii) low.letter in
     octet_pushed t₀ t₁ t₂ os i c.loop-octet-test.true e₁ e₂ ∙ c.loop-octet.invariant
 
 pub returns : goal.returns

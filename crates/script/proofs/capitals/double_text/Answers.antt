@@ -5,6 +5,6 @@ use Rattle.script.proofs.capitals.double_text.Goals as goal
 
 pub returns : goal.returns
 returns c =
-    let digits = c.in-ok-digits.ensures in
-    let octets = c.to-be-bytes.ensures ∙ ap from_highest c.f64-to-bits-with-nan-bits.ensures in
+    let digits = c.in_ok-digits.ensures in
+    let octets = c.to_be_bytes.ensures ∙ ap from_highest c.f64_to_bits_with_nan-bits.ensures in
     IfOk-weaker c.format.result _ _ (λ s e. e ∙ ap (λ t. codes "0x" ++ t) (digits ∙ ap capital_text octets)) c.format.ensures.ok

@@ -5,27 +5,27 @@ use Rattle.text.proofs.hexadecimal.octets_of.Goals as goal
 
 pub returns-in-None : goal.returns-in-None
 returns-in-None c =
-    let s = c.as-bytes-letters.result.now in
+    let s = c.as_bytes-letters.result.now in
     let h : c.loop-at.at + 1 < length s = omega arith in
-    sym (pair_refused s (vec_items c.loop-at.octets) c.loop-at.at h (sym c.octet-of.ensures ∙ c.in-None.is))
-    ∙ (c.loop-at.invariant.1 ∙ ap octets_read c.as-bytes-letters.ensures.value)
+    sym (pair_refused s (vec_items c.loop-at.octets) c.loop-at.at h (sym c.octet_of.ensures ∙ c.in-None.is))
+    ∙ (c.loop-at.invariant.1 ∙ ap octets_read c.as_bytes-letters.ensures.value)
 
 pub loop-at-preserved : goal.loop-at-preserved
 loop-at-preserved c =
-    let s = c.as-bytes-letters.result.now in
+    let s = c.as_bytes-letters.result.now in
     let h : c.loop-at.at + 1 < length s = omega arith in
-    let e = sym c.octet-of.ensures ∙ c.in-Some.is in (
+    let e = sym c.octet_of.ensures ∙ c.in-Some.is in (
       omega arith,
-      rw c.in-ok-push.ensures.items
+      rw c.in_ok-push.ensures.items
           (pair_read s (vec_items c.loop-at.octets) c.loop-at.at c.in-Some.octet h e ∙ c.loop-at.invariant.1),
     )
 
 pub returns-then-at-letters : goal.returns-then-at-letters
 returns-then-at-letters c =
-    sym (letter_left c.as-bytes-letters.result.now (vec_items c.loop-at.octets) c.loop-at.at (omega arith))
-    ∙ (c.loop-at.invariant.1 ∙ ap octets_read c.as-bytes-letters.ensures.value)
+    sym (letter_left c.as_bytes-letters.result.now (vec_items c.loop-at.octets) c.loop-at.at (omega arith))
+    ∙ (c.loop-at.invariant.1 ∙ ap octets_read c.as_bytes-letters.ensures.value)
 
 pub returns : goal.returns
 returns c =
-    sym (nothing_left c.as-bytes-letters.result.now (vec_items c.loop-at.octets) c.loop-at.at (omega arith))
-    ∙ (c.loop-at.invariant.1 ∙ ap octets_read c.as-bytes-letters.ensures.value)
+    sym (nothing_left c.as_bytes-letters.result.now (vec_items c.loop-at.octets) c.loop-at.at (omega arith))
+    ∙ (c.loop-at.invariant.1 ∙ ap octets_read c.as_bytes-letters.ensures.value)

@@ -6,11 +6,11 @@ use Rattle.calling.proofs.chains.LaneMemory.fetch.Goals as goal
 pub returns-then-k-eq0 : goal.returns-then-k-eq0
 returns-then-k-eq0 c = takes_none (stored c.args.self.now) c.requires.lawful c.args.buffer.now c.if-k-eq0.true
 
-pub next-after-first-requires : goal.next-after-first-requires
-next-after-first-requires c = first_within (stored c.args.self.now) c.requires.lawful (omega arith)
+pub next_after-first-requires : goal.next_after-first-requires
+next_after-first-requires c = first_within (stored c.args.self.now) c.requires.lawful (omega arith)
 
-pub copy-message-size-requires : goal.copy-message-size-requires
-copy-message-size-requires c =
+pub copy_message-size-requires : goal.copy_message-size-requires
+copy_message-size-requires c =
     let s = stored c.args.self.now in
     let p : 0 < s.heads.first = omega arith in
     record {
@@ -19,11 +19,11 @@ copy-message-size-requires c =
       room = c.requires.room;
     }
 
-pub link-slot-requires : goal.link-slot-requires
-link-slot-requires c = first_within (stored c.args.self.now) c.requires.lawful (omega arith)
+pub link_slot-requires : goal.link_slot-requires
+link_slot-requires c = first_within (stored c.args.self.now) c.requires.lawful (omega arith)
 
 pub returns : goal.returns
 returns c =
-    takes (stored c.args.self.now) c.requires.lawful (omega arith) c.link-slot.new.memory c.next-after-first.result
-    c.args.buffer.now c.copy-message-size.new.buffer c.copy-message-size.result (omega arith) c.next-after-first.ensures
-    c.link-slot.ensures c.copy-message-size.ensures.size c.copy-message-size.ensures.buffer
+    takes (stored c.args.self.now) c.requires.lawful (omega arith) c.link_slot.new.memory c.next_after-first.result
+    c.args.buffer.now c.copy_message-size.new.buffer c.copy_message-size.result (omega arith) c.next_after-first.ensures
+    c.link_slot.ensures c.copy_message-size.ensures.size c.copy_message-size.ensures.buffer

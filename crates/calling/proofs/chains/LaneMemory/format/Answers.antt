@@ -14,8 +14,8 @@ loop-k-preserved c =
     let j = c.loop-k.k - 1 in (
       suc i.0,
       omega (arith, i.1),
-      one_more at (slot_of c.link-slot.new.memory) i.0 j c.loop-k.k c.loop-k.free (at (j + 1)).message (omega arith)
-          i.2 c.link-slot.ensures,
+      one_more at (slot_of c.link_slot.new.memory) i.0 j c.loop-k.k c.loop-k.free (at (j + 1)).message (omega arith)
+          i.2 c.link_slot.ensures,
     )
 
 pub returns : goal.returns

@@ -6,25 +6,25 @@ use Rattle.calling.proofs.chains.LaneMemory.place.Goals as goal
 pub returns-then-k-eq0 : goal.returns-then-k-eq0
 returns-then-k-eq0 c = stays_full (stored c.args.self.now) c.requires.lawful c.args.message.now c.if-k-eq0.true
 
-pub next-after-free-requires : goal.next-after-free-requires
-next-after-free-requires c = free_within (stored c.args.self.now) c.requires.lawful (omega arith)
+pub next_after-free-requires : goal.next_after-free-requires
+next_after-free-requires c = free_within (stored c.args.self.now) c.requires.lawful (omega arith)
 
-pub fill-slot-requires : goal.fill-slot-requires
-fill-slot-requires c = (free_within (stored c.args.self.now) c.requires.lawful (omega arith), c.requires.sized.1)
+pub fill_slot-requires : goal.fill_slot-requires
+fill_slot-requires c = (free_within (stored c.args.self.now) c.requires.lawful (omega arith), c.requires.sized.1)
 
 pub returns-then-h-eq0 : goal.returns-then-h-eq0
 returns-then-h-eq0 c =
     appends_first (stored c.args.self.now) c.requires.lawful (omega arith) c.args.message.now c.requires.sized
-    c.next-after-free.result c.next-after-free.ensures c.fill-slot.new.memory (omega arith) c.if-h-eq0.true
-    c.fill-slot.ensures
+    c.next_after-free.result c.next_after-free.ensures c.fill_slot.new.memory (omega arith) c.if-h-eq0.true
+    c.fill_slot.ensures
 
-pub link-slot-requires : goal.link-slot-requires
-link-slot-requires c =
+pub link_slot-requires : goal.link_slot-requires
+link_slot-requires c =
     let w = last_within (stored c.args.self.now) c.requires.lawful (omega arith) in
     (w.0, omega arith)
 
 pub returns : goal.returns
 returns c =
     appends_next (stored c.args.self.now) c.requires.lawful (omega arith) c.args.message.now c.requires.sized
-    c.next-after-free.result c.next-after-free.ensures c.fill-slot.new.memory c.link-slot.new.memory (omega arith)
-    (omega arith) c.fill-slot.ensures c.link-slot.ensures
+    c.next_after-free.result c.next_after-free.ensures c.fill_slot.new.memory c.link_slot.new.memory (omega arith)
+    (omega arith) c.fill_slot.ensures c.link_slot.ensures

@@ -7,13 +7,13 @@ pub invariant-of-self : goal.invariant-of-self
 invariant-of-self c = (
   omega arith,
   (
-    stays_whole c.args.message.now c.args.self.now.octets c.copy-from-slice.new.self (omega arith)
-        c.copy-from-slice.ensures.after c.args.self.now.whole,
+    stays_whole c.args.message.now c.args.self.now.octets c.copy_from_slice.new.self (omega arith)
+        c.copy_from_slice.ensures.after c.args.self.now.whole,
     tt,
   ),
 )
 
 pub returns : goal.returns
 returns c =
-    keeps (held c.args.self.now) c.args.message.now c.args.self.now.octets c.copy-from-slice.new.self (omega arith) (omega arith)
-    c.copy-from-slice.ensures.after
+    keeps (held c.args.self.now) c.args.message.now c.args.self.now.octets c.copy_from_slice.new.self (omega arith) (omega arith)
+    c.copy_from_slice.ensures.after

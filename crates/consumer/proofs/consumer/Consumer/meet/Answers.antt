@@ -15,12 +15,12 @@ returns-in-default g c =
     (record { reading = c.args.reading; enable = c.args.enable; ack = c.args.ack })
     (g.C.Carrier.lanes c.args.carrier.now) c.args.buffer.now c.if-not-enable.false none
 
-pub returns-then-has-expired : goal.returns-then-has-expired
-returns-then-has-expired g c =
+pub returns-then-has_expired : goal.returns-then-has_expired
+returns-then-has_expired g c =
     met_expired g.K.RecordKind.format c.args.self.now.setup.parameters c.args.self.now.state
     (record { reading = c.args.reading; enable = c.args.enable; ack = c.args.ack })
     (g.C.Carrier.lanes c.args.carrier.now) c.args.buffer.now c.if-not-enable.false c.in-Some.standing c.in-Some.is
-    (sym c.has_expired.ensures ∙ c.if-has-expired.true)
+    (sym c.has_expired.ensures ∙ c.if-has_expired.true)
 
 pub returns-in-Ok-None : goal.returns-in-Ok-None
 returns-in-Ok-None g c =
@@ -28,7 +28,7 @@ returns-in-Ok-None g c =
     met_nothing g.K.RecordKind.format c.args.self.now.setup.parameters c.args.self.now.state
     (record { reading = c.args.reading; enable = c.args.enable; ack = c.args.ack })
     (g.C.Carrier.lanes c.args.carrier.now) c.args.buffer.now c.if-not-enable.false c.in-Some.standing c.in-Some.is
-    (sym c.has_expired.ensures ∙ c.if-has-expired.false) (g.C.Carrier.lanes c.fetch.new.self) c.fetch.new.buffer
+    (sym c.has_expired.ensures ∙ c.if-has_expired.false) (g.C.Carrier.lanes c.fetch.new.self) c.fetch.new.buffer
     (rw came at c.fetch.ensures)
 
 pub returns-in-Ok-Some : goal.returns-in-Ok-Some
@@ -37,5 +37,5 @@ returns-in-Ok-Some g c =
     met_message g.K.RecordKind.format c.args.self.now.setup.parameters c.args.self.now.state
     (record { reading = c.args.reading; enable = c.args.enable; ack = c.args.ack })
     (g.C.Carrier.lanes c.args.carrier.now) c.args.buffer.now c.if-not-enable.false c.in-Some.standing c.in-Some.is
-    (sym c.has_expired.ensures ∙ c.if-has-expired.false) (g.C.Carrier.lanes c.fetch.new.self) c.fetch.new.buffer
+    (sym c.has_expired.ensures ∙ c.if-has_expired.false) (g.C.Carrier.lanes c.fetch.new.self) c.fetch.new.buffer
     c.in-Ok-Some.size c.hear.result (rw came at c.fetch.ensures) c.hear.ensures

@@ -21,6 +21,6 @@ pub returns : goal.returns
 returns c =
     let l = c.loop-code in
     let codes = c.args.codes.now in
-    taken codes c.copy-from-slice.new.self _ c.args.self.now _ (omega arith)
-    (sym l.invariant ∙ at_drop_all are_codes codes l.code-index c.loop-code-test.false) c.copy-from-slice.ensures.after
+    taken codes c.copy_from_slice.new.self _ c.args.self.now _ (omega arith)
+    (sym l.invariant ∙ at_drop_all are_codes codes l.code-index c.loop-code-test.false) c.copy_from_slice.ensures.after
     refl refl refl refl

@@ -6,12 +6,12 @@ pub returns : goal.returns
 returns g c =
     let f = g.K.RecordKind.format in
     let laws = g.met.K.RecordKind.lawful in
-    let ok = sym c.encode.ensures.answer ∙ c.in-ok-encode.was in
+    let ok = sym c.encode.ensures.answer ∙ c.in_ok-encode.was in
     record {
-      answer = build_ok f laws c.args.parameters.now c.args.self.now c.args.buffer.now c.in-ok-encode.field-0
-          c.if-buffer-lt-LONGEST.false ok c.octet-length-size.result c.octet-length-size.ensures;
-      written = build_done f laws c.args.parameters.now c.args.self.now c.args.buffer.now c.in-ok-encode.field-0
-          c.if-buffer-lt-LONGEST.false ok c.octet-length-size.result c.octet-length-size.ensures
+      answer = build_ok f laws c.args.parameters.now c.args.self.now c.args.buffer.now c.in_ok-encode.field-0
+          c.if-buffer-lt-LONGEST.false ok c.octet_length-size.result c.octet_length-size.ensures;
+      written = build_done f laws c.args.parameters.now c.args.self.now c.args.buffer.now c.in_ok-encode.field-0
+          c.if-buffer-lt-LONGEST.false ok c.octet_length-size.result c.octet_length-size.ensures
           c.encode.new.out c.finish.new.buffer c.octet.result c.of-identities.result c.encode.ensures.written
           c.octet.ensures c.of-identities.ensures c.finish.ensures;
     }

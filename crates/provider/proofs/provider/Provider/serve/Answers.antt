@@ -14,9 +14,9 @@ returns-in-Ok g c =
       served = served_taken g.K.RecordKind.format g.met.K.RecordKind.lawful c.args.self.now.parameters c.args.self.now.memory
           c.args.given c.args.flags (g.C.Carrier.lanes c.args.carrier.now) (g.C.Carrier.lanes c.fetch.new.self)
           (g.C.Carrier.lanes c.place.new.self) c.args.buffer.now c.fetch.new.buffer c.in-Ok-Some.size (omega arith)
-          (sym c.is_sound.ensures ∙ c.if-not-is-sound.false) (rw came at c.fetch.ensures) c.in-Some.request (sym c.read.ensures ∙ c.in-Some.is)
+          (sym c.is_sound.ensures ∙ c.if-not-is_sound.false) (rw came at c.fetch.ensures) c.in-Some.request (sym c.read.ensures ∙ c.in-Some.is)
           c.respond-told.result.0 c.respond-told.ensures.response
-          c.build.new.buffer c.in-ok-end.end (sym c.build.ensures.answer ∙ c.in-ok-end.was) c.build.ensures.written
+          c.build.new.buffer c.in_ok-end.end (sym c.build.ensures.answer ∙ c.in_ok-end.was) c.build.ensures.written
           c.in-Ok.field-0 c.respond-told.result.1 c.respond-told.ensures.told c.in-Ok.ensures;
     }
 
@@ -28,8 +28,8 @@ returns-in-Err-place g c =
       served = served_full g.K.RecordKind.format g.met.K.RecordKind.lawful c.args.self.now.parameters c.args.self.now.memory
           c.args.given c.args.flags (g.C.Carrier.lanes c.args.carrier.now) (g.C.Carrier.lanes c.fetch.new.self)
           (g.C.Carrier.lanes c.place.new.self) c.args.buffer.now c.fetch.new.buffer c.in-Ok-Some.size (omega arith)
-          (sym c.is_sound.ensures ∙ c.if-not-is-sound.false) (rw came at c.fetch.ensures) c.in-Some.request (sym c.read.ensures ∙ c.in-Some.is)
+          (sym c.is_sound.ensures ∙ c.if-not-is_sound.false) (rw came at c.fetch.ensures) c.in-Some.request (sym c.read.ensures ∙ c.in-Some.is)
           c.respond-told.result.0 c.respond-told.ensures.response
-          c.build.new.buffer c.in-ok-end.end (sym c.build.ensures.answer ∙ c.in-ok-end.was) c.build.ensures.written
+          c.build.new.buffer c.in_ok-end.end (sym c.build.ensures.answer ∙ c.in_ok-end.was) c.build.ensures.written
           c.in-Err-place.field-0 c.in-Err-place.ensures;
     }
