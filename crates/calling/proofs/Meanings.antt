@@ -19,9 +19,6 @@ use Rattle.carrier.proofs.Cells.{sends}
 use Rattle.carrier.proofs.Steady.{Lengthy, steady_placed, steady_fetched}
 use Rattle.message.specs.Response.{longest}
 
-pub some_slots : (c : Calling) → HasSlots (meaning c)
-some_slots c = record { up = omega arith; down = omega arith }
-
 -- over two memories that are not both whole slots
 pub closed : (u d : Stored) (o p : List ℕ) → u ≡ record { octets = o; heads = no_slots } → d ≡ record { octets = p; heads = no_slots }
     → both_whole o p ≡ false → means u d ≡ made_over o p

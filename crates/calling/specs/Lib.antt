@@ -3,3 +3,4 @@ pub mod Slots
 pub mod Chains
 pub mod Lane
 pub mod Meaning
+pub mod MeaningLemmas

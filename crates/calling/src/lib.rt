@@ -3,6 +3,7 @@
 
 ghost use Rattle.std.specs.Prelude.{◌≡◌, false};
 ghost use Rattle.calling.specs.Meaning.{meaning, memory_of, both_whole, made_over, TakesNothing, BringsNothing};
+ghost use Rattle.calling.specs.MeaningLemmas.{some_slots};
 ghost use Rattle.carrier.specs.Place.{Placed};
 ghost use Rattle.carrier.specs.Fetch.{Fetched};
 
@@ -51,6 +52,8 @@ impl<'a, 'b, 'm, 'n> Calling<'a, 'b, 'm, 'n> {
 
 impl<'a, 'b, 'm, 'n> Carrier for Calling<'a, 'b, 'm, 'n> {
     ghost lanes = { λ s. meaning s };
+
+    ghost slots = { some_slots };
 
     fn place(&mut self, lane: Lane, message: &[u8]) -> Result<(), PlaceRefusal>
         ensures carries { Placed lane message.now (meaning self.old) (meaning self.new) result }

@@ -3,3 +3,4 @@ pub mod Place
 pub mod Fetch
 pub mod Numbers
 pub mod Cells
+pub mod CellsLemmas

@@ -1,6 +1,6 @@
 ghost use Rattle.std.specs.Prelude.{◌≡◌};
 ghost use Rattle.carrier.specs.Cells.{published, nothing_published};
-ghost use Rattle.std.proofs.Common.{rules};
+ghost use Rattle.carrier.specs.CellsLemmas.{one_slot};
 
 use crate::Carrier;
 use crate::cell::Cell;
@@ -28,7 +28,7 @@ impl Publishing {
 impl Carrier for Publishing {
     ghost lanes = { λ s. published s.up s.down };
 
-    ghost slots = { Prim.search rules };
+    ghost slots = { λ s. one_slot s.up s.down };
 
     fn place(&mut self, lane: Lane, message: &[u8]) -> Result<(), PlaceRefusal> {
         if message.len() == 0 || message.len() > 1525 {

@@ -1,2 +1,3 @@
 pub mod Scripts
 pub mod Disturbing
+pub mod DisturbingLemmas

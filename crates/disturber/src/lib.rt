@@ -7,7 +7,7 @@ ghost use Rattle.carrier.specs.Place.{Placed};
 ghost use Rattle.message.specs.Response.{longest};
 ghost use Rattle.disturber.specs.declared.disturbance.Disturbance.TheVariants.{Pass, Lose, Repeat, Flip};
 ghost use Rattle.disturber.specs.Disturbing.{lanes_over, Acted, FetchedThrough};
-ghost use Rattle.std.proofs.Common.{rules};
+ghost use Rattle.disturber.specs.DisturbingLemmas.{slots_over};
 
 mod disturbance;
 pub mod filling;
@@ -107,7 +107,7 @@ impl<C: Carrier> Disturber<C> {
 impl<C: Carrier> Carrier for Disturber<C> {
     ghost lanes = { λ s. lanes_over C.Carrier.lanes s };
 
-    ghost slots = { Prim.search rules };
+    ghost slots = { slots_over C.Carrier.lanes C.Carrier.slots };
 
     fn place(&mut self, lane: Lane, message: &[u8]) -> Result<(), PlaceRefusal>
         ensures carries { Placed lane message.now (lanes_over C.Carrier.lanes self.old)

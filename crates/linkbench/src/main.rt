@@ -10,6 +10,7 @@ mod trouble;
 use making::run_script;
 use source::Source;
 use std::io::BufReader;
+use std::process::ExitCode;
 use std::{env, fs};
 use trouble::Trouble;
 
@@ -38,19 +39,27 @@ fn run_named(rt: &HostRuntime, name: &str) -> Result<(), Trouble> {
     ran
 }
 
-fn main(rt: HostRuntime) -> Result<(), Trouble> {
-    let mut names = env::args(&rt)?;
+fn run(rt: &HostRuntime) -> Result<(), Trouble> {
+    let mut names = env::args(rt)?;
     let _program = names.next();
     let Some(first) = names.next() else {
-        let ran = run_input(&rt);
+        let ran = run_input(rt);
         if let Err(trouble) = &ran {
             eprintln!(rt; "{trouble}")?;
         }
         return ran;
     };
-    run_named(&rt, first.as_str())?;
+    run_named(rt, first.as_str())?;
     for name in names {
-        run_named(&rt, name.as_str())?;
+        run_named(rt, name.as_str())?;
     }
     Ok(())
+}
+
+// What ended the run early was told already.
+fn main(rt: HostRuntime) -> ExitCode {
+    match run(&rt) {
+        Ok(()) => ExitCode::SUCCESS,
+        Err(_) => ExitCode::FAILURE,
+    }
 }

@@ -8,7 +8,7 @@ pub returns : goal.returns
 returns g c =
     let f = g.K.RecordKind.format in
     let laws = g.met.K.RecordKind.lawful in
-    let o = octets_of c.args.octets.now c.ok.octets in
+    let o = octets_of c.args.octets.now c.type_inv.octets in
     record {
       answer = rewrite_ok f laws c.in_ok-back.back c.args.out.now c.args.octets.now o
           (sym c.decode.ensures ∙ c.in_ok-back.was)

@@ -16,7 +16,7 @@ loop-at-preserved c =
     let h : c.loop-at.at + 1 < length s = omega arith in
     let e = sym c.octet_of.ensures ∙ c.in-Some.is in (
       omega arith,
-      rw c.in_ok-push.ensures.items
+      rw c.in_ok-push-in-Some.ensures.items
           (pair_read s (vec_items c.loop-at.octets) c.loop-at.at c.in-Some.octet h e ∙ c.loop-at.invariant.1),
     )
 
