@@ -72,11 +72,3 @@ pub fn signature(octets: &[u8]) -> u32
     }
     if register == 0 { 1 } else { register }
 }
-
-// The same for a caller in C: the octets' address, then their number.
-#[unsafe(no_mangle)]
-pub extern "C" fn selomuvia_signature(octets: &[u8]) -> u32
-    ensures { result ≡ signature octets.now }
-{
-    signature(octets)
-}

@@ -16,7 +16,7 @@ returns-in-Up g c =
     })
 
 pub returns-then-buffer-lt-LONGEST : goal.returns-then-buffer-lt-LONGEST
-returns-then-buffer-lt-LONGEST g c = rw c.in-default.is (record {
+returns-then-buffer-lt-LONGEST g c = rw c.in_default.is (record {
   carries = record { refused = λ _. (refl, refl, refl); fetched = λ long. search rules };
   disturbs = record { refused = λ _. (refl, refl, refl); fetched = λ long. search rules };
 })
@@ -30,7 +30,7 @@ returns g c =
     let a = c.advance-disturbance in
     let p = uses_one g.C.Carrier.lanes d d' s t _ a.result a.new.self a.ensures.disturbance a.ensures.moves
     a.ensures.kept c.disturb.ensures in
-    rw c.in-default.is (record {
+    rw c.in_default.is (record {
       carries = carries g.C.Carrier.lanes d d' _ s t _ _ (omega arith) p;
       disturbs = record { refused = λ short. search rules; fetched = λ _. p };
     })

@@ -3,5 +3,5 @@ use Rattle.calling.specs.Chains.{Lawful}
 use Rattle.calling.proofs.Formats.{unused}
 use Rattle.calling.proofs.lane.SlotLane.close.Goals as goal
 
-pub invariant-of-self : goal.invariant-of-self
-invariant-of-self c = (∣ subst Lawful (sym c.close.ensures) (unused c.args.self.now.memory.octets.now).0 ∣₁, tt)
+pub invariant_of-self : goal.invariant_of-self
+invariant_of-self c = record { lawful = ∣ subst Lawful (sym c.close.ensures) (unused c.args.self.now.memory.octets.now).0 ∣₁ }

@@ -1,4 +1,4 @@
 use Rattle.calling.proofs.lane.SlotLane.format.Goals as goal
 
-pub invariant-of-self : goal.invariant-of-self
-invariant-of-self c = (∣ c.format.ensures.lawful ∣₁, tt)
+pub invariant_of-self : goal.invariant_of-self
+invariant_of-self c = record { lawful = ∣ c.format.ensures.lawful ∣₁ }

@@ -8,8 +8,8 @@ returns-then-not-enable g c =
     (record { reading = c.args.reading; enable = c.args.enable; ack = c.args.ack })
     (g.C.Carrier.lanes c.args.carrier.now) c.args.buffer.now c.if-not-enable.true
 
-pub returns-in-default : goal.returns-in-default
-returns-in-default g c =
+pub returns-in_default : goal.returns-in_default
+returns-in_default g c =
     let none : c.args.self.now.state.standing ≡ None = search rules in
     met_started g.K.RecordKind.format c.args.self.now.setup.parameters c.args.self.now.state
     (record { reading = c.args.reading; enable = c.args.enable; ack = c.args.ack })
