@@ -9,7 +9,7 @@ It prints the names that another name of the same file has already."""
 import os
 import re
 
-NAME = re.compile(r"(?<![\w'′◌-])[A-Za-z][\w'′]*(?:-[\w'′]+)+(?![◌-])")
+NAME = re.compile(r"(?<![\w'′◌-])(?<!ᴰ\.)[A-Za-z][\w'′]*(?:-[\w'′]+)+(?![◌-])")
 TOP = re.compile(r"(?m)^[ ]*(?:(?:pub|abbrev|unfoldable|irreducible|inline|instance|data|record)\s+)*([A-Za-z][\w'′]*(?:-[\w'′]+)+)\s*(?:\{[^}]*\}\s*|\([^)]*\)\s*)*:(?!:)")
 USE = re.compile(r"\buse ([\w.]+)\.\{([^}]*)\}")
 
@@ -36,7 +36,7 @@ def code_and_comments(path, text):
     """The text in parts: (is it code, the part)."""
     if path.endswith(".edit"):
         return [(True, text)]
-    mark = r"--(?=\s|$).*" if path.endswith(".antt") else r"//.*|\"(?:[^\"\\]|\\.)*\""
+    mark = (r"--(?=\s|$).*" if path.endswith(".antt") else r"//.*") + r"|\"(?:[^\"\\]|\\.)*\""
     out, at = [], 0
     for m in re.finditer(mark, text):
         out += [(True, text[at : m.start()]), (False, m[0])]

@@ -197,8 +197,8 @@ module _ {R : Type 0} (f : Format R) (s : Setup) (first : Lanes) where
   known [] (up, down, slots) = record {
     standing = λ q e. none_some e;
     accepted = λ q e. none_some e;
-    up = λ m e. absurd (Memᴰ.not_nil (rw up at e));
-    down = λ m e. absurd (Memᴰ.not_nil (rw down at e));
+    up = λ m e. absurd (Memᴰ.not-nil (rw up at e));
+    down = λ m e. absurd (Memᴰ.not-nil (rw down at e));
     memory = λ y e. absurd (none_some e);
   }
   known (x ∷ h) (ran, happens) =

@@ -9,7 +9,7 @@ use Rattle.script.specs.declared.expected.LineFault.TheVariants as fault
 abbrev pub expected_text : Expected → List ℕ
 expected_text what.LineName = codes "kind, parameters, carrier, disturb, link, cycle, serve or place"
 expected_text what.End = codes "the end of the line"
-expected_text what.Text = codes "text in UTF_8"
+expected_text what.Text = codes "text in UTF-8"
 expected_text what.KindName = codes "meter or draw"
 expected_text what.Consumer = codes "consumer=N, a number of 32 bits"
 expected_text what.Provider = codes "provider=N, a number of 32 bits"
@@ -29,7 +29,7 @@ expected_text what.Record = codes "a record: pulses of 32 bits, stop, run or pre
 expected_text what.Temperature = codes "a temperature from -32768 to 32767"
 expected_text what.Validity = codes "valid or invalid"
 expected_text what.Amount = codes "a decimal number, 0x and 16 digits, inf, -inf or nan"
-expected_text what.ServeOption = codes "operator_ack, activate_fsv, test_mode or buffer=N, each at most once"
+expected_text what.ServeOption = codes "operator-ack, activate-fsv, test-mode or buffer=N, each at most once"
 expected_text what.LaneName = codes "up or down"
 expected_text what.Octets = codes "pairs of hexadecimal digits"
 expected_text what.GoodParameters = codes "a good parameters line first"

@@ -48,8 +48,8 @@ abbrev pub shown_text : {K : Type 0} → (K → List ℕ) → Shown K → List �
 shown_text written shown =
     mark_text shown.fsv_activated ++ (codes " " ++ (written shown.safety_data
     ++ (codes " wish=" ++ (flag_text shown.operator_ack_requested
-    ++ (codes " ack_provider=" ++ (flag_text shown.operator_ack_provider
-    ++ (codes " test_mode=" ++ flag_text shown.test_mode_activated)))))))
+    ++ (codes " ack-provider=" ++ (flag_text shown.operator_ack_provider
+    ++ (codes " test-mode=" ++ flag_text shown.test_mode_activated)))))))
 
 -- what a cycle at this reading answered
 abbrev pub cycle_text : {K : Type 0} → (K → List ℕ) → ℕ → Result (CycleAnswer K) CycleRefusal → List ℕ
