@@ -2,10 +2,9 @@
 use Rattle.std.proofs.Common.{◌≡◌, ℕ, ◌≤◌, max, Bool, true, false, cond, ◌&&◌, eqb, ltb, List, [], ◌∷◌, ◌++◌, length, Ok, Err, Option, sym, refl, ap, ◌∙◌, subst, arith}
 use Rattle.std.specs.List.{AllByRecursion as All}
 use Rattle.std.proofs.lemmas.Bool.{and_parts, ltb-true}
-use Rattle.calling.specs.declared.Calling.{Calling}
 use Rattle.calling.specs.Chains.{Lawful, Sized, Stored, held, no_slots}
 use Rattle.calling.specs.Lane.{Appends, Takes, crowded}
-use Rattle.calling.specs.Meaning.{both_whole, lanes_of, made_over, meaning, means}
+use Rattle.calling.specs.Meaning.{both_whole, lanes_of, made_over, means}
 use Rattle.calling.proofs.Formats.{unused}
 use Rattle.calling.proofs.Props.{opened}
 use Rattle.calling.proofs.Stores.{all_sized}
@@ -13,7 +12,7 @@ use Rattle.carrier.specs.declared.lane.Lane.{Lane}
 use Rattle.carrier.specs.declared.lane.Lane.TheVariants.{Up, Down}
 use Rattle.carrier.specs.declared.lane.PlaceRefusal.TheVariants.{Full}
 use Rattle.carrier.specs.Fetch.{Fetched, brought_in, first_of, length_of, rest_of}
-use Rattle.carrier.specs.Lanes.{HasSlots, Lanes, Message, lane_of, with_lane}
+use Rattle.carrier.specs.Lanes.{Lanes, Message, lane_of, with_lane}
 use Rattle.carrier.specs.Place.{Answer, Placed, full, steady_place}
 use Rattle.carrier.proofs.Cells.{sends}
 use Rattle.carrier.proofs.Steady.{Lengthy, steady_placed, steady_fetched}

@@ -1,11 +1,9 @@
 -- What a cell holds is a message.
-use Rattle.std.proofs.Common.{◌≡◌, ℕ, ◌-◌, ◌≤◌, Bool, true, false, cond, eqb, leb, List, [], ◌∷◌, ◌++◌, length, take, drop, Some, None, Ok, Option, sym, refl, ap, ◌∙◌, arith, length-append, length-drop, length-take}
-use borrow.Author.Tests.{eqb-false}
+use Rattle.std.proofs.Common.{◌≡◌, ℕ, ◌-◌, ◌≤◌, true, false, cond, eqb, leb, List, ◌++◌, length, take, drop, Some, None, Ok, Option, sym, refl, ap, ◌∙◌, arith, length-append, length-drop, length-take}
 use Rattle.std.proofs.lemmas.List.{take_at}
 use Rattle.std.proofs.lemmas.Bool.{le-leb, le-ltb, ne_eqb, and_from, cond_both}
 use Rattle.carrier.specs.declared.cell.Cell.{Cell}
 use Rattle.carrier.specs.declared.lane.Lane.{Lane}
-use Rattle.carrier.specs.declared.lane.Lane.TheVariants.{Up, Down}
 use Rattle.carrier.specs.Cells.{held, kept_after, shown, shown_in, listed, published}
 use Rattle.carrier.specs.Fetch.{Fetched, Brought, first_of, length_of, brought_in}
 use Rattle.carrier.specs.Lanes.{Message, lane_of, with_lane}

@@ -1,5 +1,5 @@
 -- What the answer of a fetch tells its caller.
-use Rattle.std.proofs.Common.{◌≡◌, ℕ, ◌-◌, Bool, true, false, ltb, List, length, take, drop, Some, None, Ok, Err, refl, ap, ◌∙◌, arith}
+use Rattle.std.proofs.Common.{◌≡◌, ℕ, ◌-◌, Bool, true, false, ltb, List, length, take, drop, Some, None, Ok, refl, ap, ◌∙◌, arith}
 use Rattle.std.proofs.lemmas.List.{take_at}
 use Rattle.carrier.specs.declared.lane.Lane.{Lane}
 use Rattle.carrier.specs.Fetch.{Fetched, FetchedSo, Got, Brought, brought_in}

@@ -1,5 +1,5 @@
 -- What a cell holds, and what the publishing carrier means.
-use Rattle.std.specs.Prelude.{ℕ, true, cond, List, [], ◌∷◌, length, take, Some, None, Option, ◌==◌, nat_lt}
+use Rattle.std.specs.Prelude.{ℕ, true, cond, List, [], ◌∷◌, length, take, Some, None, ◌==◌, nat_lt}
 use Rattle.carrier.specs.declared.cell.Cell.{Cell}
 use Rattle.carrier.specs.Fetch.{Brought, brought_in}
 use Rattle.carrier.specs.Lanes.{Message, Lanes}

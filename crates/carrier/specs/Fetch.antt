@@ -1,5 +1,5 @@
 -- What fetch may do.
-use Rattle.std.specs.Prelude.{◌≡◌, ℕ, ◌≤◌, Bool, true, false, cond, ◌⊎◌, List, [], ◌∷◌, ◌++◌, length, drop, Some, None, Ok, Err, Option, Result, nat_lt}
+use Rattle.std.specs.Prelude.{◌≡◌, ℕ, ◌≤◌, true, false, cond, ◌⊎◌, List, [], ◌∷◌, ◌++◌, length, drop, Some, None, Ok, Err, Option, Result, nat_lt}
 use mathlib.Core.List.{Memᴰ}
 use Rattle.carrier.specs.declared.lane.FetchRefusal.{FetchRefusal}
 use Rattle.carrier.specs.declared.lane.FetchRefusal.TheVariants.{ShortBuffer}

@@ -1,5 +1,5 @@
 -- What place may do.
-use Rattle.std.specs.Prelude.{◌≡◌, Bool, true, false, cond, ◌&&◌, ◌⊎◌, List, [], ◌∷◌, ◌++◌, length, Ok, Err, Result, ◌==◌, nat_le}
+use Rattle.std.specs.Prelude.{◌≡◌, Bool, true, false, cond, ◌&&◌, ◌⊎◌, [], ◌∷◌, ◌++◌, length, Ok, Err, Result, ◌==◌, nat_le}
 use mathlib.Core.List.{Memᴰ}
 use Rattle.carrier.specs.declared.lane.Lane.{Lane}
 use Rattle.carrier.specs.declared.lane.PlaceRefusal.{PlaceRefusal}

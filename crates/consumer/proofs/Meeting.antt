@@ -1,11 +1,11 @@
 -- What a cycle meets, way by way, and how its request is sent.
-use Rattle.std.proofs.Common.{◌≡◌, ℕ, ◌-◌, Bool, true, false, List, take, Some, None, Ok, sym, refl, ap, ◌∙◌, subst}
-use Rattle.carrier.proofs.Fetches.{GotSome, fetched_some, fetched_none, fetched_octets}
+use Rattle.std.proofs.Common.{◌≡◌, ℕ, ◌-◌, true, false, List, take, Some, None, Ok, refl, ap, ◌∙◌, subst}
+use Rattle.carrier.proofs.Fetches.{fetched_some, fetched_none, fetched_octets}
 use Rattle.carrier.proofs.Places.{taken_or_full}
 use Rattle.carrier.specs.declared.lane.Lane.TheVariants.{Up, Down}
 use Rattle.carrier.specs.Fetch.{Fetched}
 use Rattle.carrier.specs.Lanes.{Lanes}
-use Rattle.carrier.specs.Place.{Placed, Answer, sendable}
+use Rattle.carrier.specs.Place.{Placed, Answer}
 use Rattle.consumer.specs.declared.event.Turn.{Turn}
 use Rattle.consumer.specs.declared.event.Turn.TheVariants.{Disabled, Started, Expired, Nothing}
 use Rattle.consumer.specs.declared.state.State.{State}

@@ -1,5 +1,5 @@
 -- How a consumer judges a message while a request stands.
-use Rattle.std.specs.Prelude.{ℕ, ◌+◌, Bool, true, false, cond, List, Some, None, Ok, Err, Option, Result, ◌==◌}
+use Rattle.std.specs.Prelude.{ℕ, ◌+◌, Bool, false, cond, List, Some, None, Ok, Err, Option, Result, ◌==◌}
 use Rattle.consumer.specs.declared.event.Turn.{Turn}
 use Rattle.consumer.specs.declared.event.Turn.TheVariants.{Ignored, Accepted}
 use Rattle.consumer.specs.declared.fault.CycleFault.{CycleFault}

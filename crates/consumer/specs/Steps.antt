@@ -1,5 +1,5 @@
 -- The steps of a cycle: what it meets, and what that makes of the consumer's state.
-use Rattle.std.specs.Prelude.{ℕ, ◌+◌, ◌-◌, ◌*◌, max, Bool, true, false, cond, not, ◌&&◌, ◌||◌, List, Some, None, Ok, Err, Option, Result, nat_le, nat_lt}
+use Rattle.std.specs.Prelude.{ℕ, ◌-◌, ◌*◌, max, Bool, true, false, cond, not, ◌&&◌, ◌||◌, Some, None, Ok, Err, Option, Result, nat_le, nat_lt}
 use Rattle.carrier.specs.Fetch.{Brought}
 use Rattle.consumer.specs.declared.event.CycleAnswer.{CycleAnswer}
 use Rattle.consumer.specs.declared.event.Event.{Event}

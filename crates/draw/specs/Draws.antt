@@ -1,5 +1,5 @@
 -- The litre: what the meter tells, and when the bay's draw program shuts the nozzle.
-use Rattle.std.specs.Prelude.{ℕ, ◌-◌, ◌*◌, ◌/◌, ◌^◌, min, Bool, true, false, cond, not, ◌&&◌, pos, Some, None, Option, nat_le}
+use Rattle.std.specs.Prelude.{ℕ, ◌-◌, ◌*◌, ◌/◌, ◌^◌, min, Bool, true, cond, not, ◌&&◌, pos, Some, None, Option, nat_le}
 use Rattle.draw.specs.declared.bay.Bay.{Bay}
 use Rattle.draw.specs.declared.bay.Shut.{Shut}
 use Rattle.record.specs.declared.meter.Meter.{Meter}

@@ -1,5 +1,5 @@
 -- Worked figures: what the rules give at the numbers that stand here.
-use Rattle.std.specs.Prelude.{◌≡◌, ℕ, true, false, List, [], ◌∷◌, pos, negsuc, Some, Ok, Result}
+use Rattle.std.specs.Prelude.{◌≡◌, ℕ, true, false, List, [], ◌∷◌, pos, negsuc, Some}
 use Rattle.std.specs.Float.{fin}
 use Rattle.consumer.specs.declared.event.Turn.TheVariants.{Fault}
 use Rattle.consumer.specs.declared.fault.CycleFault.{CycleFault}
@@ -9,7 +9,6 @@ use Rattle.consumer.specs.Steps.{has_expired, after_turn}
 use Rattle.message.specs.declared.parameters.Parameters.{Parameters}
 use Rattle.message.specs.Identity.{identity_3}
 use Rattle.message.specs.Number.{next_number}
-use Rattle.record.specs.declared.draw.Draw.{Draw}
 use Rattle.record.specs.declared.draw.Draw.TheVariants.{Run}
 use Rattle.record.specs.declared.fault.RecordCause.TheVariants.{Tag}
 use Rattle.record.specs.declared.meter.Meter.{Meter}

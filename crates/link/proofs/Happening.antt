@@ -1,5 +1,5 @@
 -- The examples happen, call by call.
-use Rattle.std.proofs.Common.{◌≡◌, ℕ, ◌≤◌, Bool, true, false, List, [], ◌∷◌, Some, None, Option, refl, subst, inl, inr, lit<, lit≤}
+use Rattle.std.proofs.Common.{◌≡◌, ℕ, Bool, true, false, [], ◌∷◌, Some, None, Option, refl, subst, inl, lit<, lit≤}
 use borrow.Author.Tests.{both_ways}
 use Rattle.carrier.proofs.Steady.{Lengthy}
 use Rattle.carrier.specs.declared.lane.Lane.TheVariants.{Down}
@@ -11,7 +11,7 @@ use Rattle.link.specs.Examples.{two_rounds, TwoRounds, two_faults, wished, HoldA
 use Rattle.link.specs.Laws.{Rounds}
 use Rattle.link.specs.Laws.Rounds.{start, round}
 use Rattle.link.specs.Runs.{Ran, History, lanes_at, provider_at}
-use Rattle.link.specs.Words.{Message, Lanes, Response, Octets, first_of, reply, sendable, response_octets, verdict, turn, u32_at, with_signature}
+use Rattle.link.specs.Words.{Lanes, Response, first_of, reply, sendable, response_octets, verdict, turn, u32_at, with_signature}
 use Rattle.link.proofs.Steadily.{cycle_happens, serve_happens, place_happens}
 
 -- what is sent, if anything, has a lawful length

@@ -1,9 +1,9 @@
 -- A hold lasts from a repeated fault to an acknowledgment edge, and under it substitutes are shown.
-use Rattle.std.proofs.Common.{◌≡◌, ℕ, Bool, true, false, cond, not, ◌&&◌, ◌||◌, ◌⊎◌, List, [], ◌∷◌, refl, ap, ◌∙◌, inl, inr}
+use Rattle.std.proofs.Common.{◌≡◌, ℕ, Bool, true, false, not, ◌&&◌, ◌||◌, [], ◌∷◌, refl, inl, inr}
 use Rattle.consumer.specs.declared.event.Turn.TheVariants.{Disabled, Started, Expired, Nothing, Ignored, Fault, Accepted}
-use Rattle.std.proofs.lemmas.Bool.{and_parts, and_from, or_left, or_right, cases_Bool, not_from_false, cond-true, both_ways}
+use Rattle.std.proofs.lemmas.Bool.{and_parts, and_from, or_left, or_right, not_from_false, cond-true, both_ways}
 use Rattle.link.specs.Laws.{OfShown, Substitutes, Marked, IsFault, Repeats, Acknowledges, Unacknowledged, Held}
-use Rattle.link.specs.Runs.{Call, Moment, History, Ran, Happens, consumer_at, consumer_after, provider_at, lanes_at}
+use Rattle.link.specs.Runs.{Call, History, Ran, Happens, consumer_at, consumer_after, provider_at, lanes_at}
 use Rattle.link.specs.Runs.Call.{cycled, cycle_refused, served, serve_refused, placed}
 use Rattle.link.specs.Words.{Brought, Lanes, Setup, Shown, State, Turn, Inputs, Parameters, Format, Memory}
 use Rattle.link.specs.Words.{turn, cycle, after_turn, after_fault, is_edge, is_repeated, time_of}

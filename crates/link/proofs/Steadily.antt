@@ -1,11 +1,11 @@
 -- Over a steady carrier every cycle, serve and stranger's place can happen.
-use Rattle.std.proofs.Common.{◌≡◌, ℕ, ◌≤◌, Bool, true, false, cond, not, List, [], ◌∷◌, length, Some, None, Ok, Err, Option, refl}
+use Rattle.std.proofs.Common.{◌≡◌, Bool, true, false, cond, not, ◌∷◌, Some, None, Ok, Err, Option, refl}
 use Rattle.carrier.proofs.Steady.{Lengthy, steady_placed, steady_got}
 use Rattle.carrier.specs.declared.lane.Lane.TheVariants.{Up, Down}
 use Rattle.carrier.specs.declared.lane.PlaceRefusal.TheVariants.{Full}
-use Rattle.link.specs.Examples.{fetching, cycle_brings, cycle_between, cycle_sends, cycle_moment, serve_moment, place_moment, taken_if, placed_if, octets_if, response_if}
-use Rattle.link.specs.Runs.{Call, Moment, History, Ran, FetchedIf, Sent, Replied, Strange, consumer_at, provider_at, lanes_at, place_answer}
-use Rattle.link.specs.Words.{Lane, Brought, Got, Message, Lanes, Placed, first_of, steady_fetch, full, steady_place, steady_answer, sendable}
+use Rattle.link.specs.Examples.{fetching, cycle_brings, cycle_between, cycle_moment, serve_moment, place_moment, taken_if, placed_if, octets_if, response_if}
+use Rattle.link.specs.Runs.{History, Ran, FetchedIf, Sent, Replied, Strange, consumer_at, provider_at, lanes_at, place_answer}
+use Rattle.link.specs.Words.{Lane, Message, Lanes, first_of, steady_fetch, full, steady_place, steady_answer, sendable}
 use Rattle.link.specs.Words.{Setup, TimedRequest, Inputs, turn, cycle, made, ResponseFlags, Response, Format, request_octets, response_octets, reply}
 
 fetches_if : (b : Bool) (k : Lanes) → Lengthy (first_of k.down)

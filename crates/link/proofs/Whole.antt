@@ -1,17 +1,16 @@
 -- All laws of every run, and how a call on a link extends the history that led to it.
-use Rattle.std.proofs.Common.{◌≡◌, ℕ, ◌≤◌, Bool, true, false, cond, ltb, List, [], ◌∷◌, length, Some, None, Ok, Err, Option, Result, sym, refl, ap, ◌∙◌, subst, inl, inr}
+use Rattle.std.proofs.Common.{◌≡◌, ℕ, Bool, true, false, ltb, List, [], ◌∷◌, length, Some, None, Option, Result, sym, refl, ap, ◌∙◌, subst, inl, inr}
 use Rattle.consumer.specs.Cycled.{Cycled}
 use Rattle.consumer.specs.declared.consumer.Consumer.{Consumer}
 use Rattle.consumer.specs.declared.event.CycleRefusal.{CycleRefusal}
-use Rattle.provider.specs.declared.answer.ServeRefusal.TheVariants.{NotARequest, Full}
 use Rattle.provider.specs.declared.provider.Provider.{Provider}
 use Rattle.provider.specs.Served.{Served}
 use Rattle.link.specs.Laws.{Every_run}
-use Rattle.link.specs.Links.{Reached, Extends, moment, cycle_call, CycleRuns, serve_call, ServeRuns}
-use Rattle.link.specs.Runs.{Call, Moment, History, Ran, Happens, Strange, Replied, consumer_after, provider_after, consumer_at, provider_at, lanes_at}
+use Rattle.link.specs.Links.{Reached, Extends, moment, CycleRuns, serve_call, ServeRuns}
+use Rattle.link.specs.Runs.{Call, History, Ran, Happens, Strange, Replied, consumer_after, provider_after, consumer_at, provider_at, lanes_at}
 use Rattle.link.specs.Runs.Call.{cycled, cycle_refused, served, serve_refused, placed}
-use Rattle.link.specs.Words.{Lane, PlaceRefusal, Brought, Message, Lanes, HasSlots, Placed, CycleAnswer, Setup, State, Inputs, fresh}
-use Rattle.link.specs.Words.{Parameters, Response, ResponseFlags, ServeAnswer, ServeRefusal, Memory, reply, told, told_to, request_read, longest, Format, Lawful}
+use Rattle.link.specs.Words.{Lane, PlaceRefusal, Brought, Message, Lanes, HasSlots, Placed, CycleAnswer, Setup, Inputs, fresh}
+use Rattle.link.specs.Words.{Parameters, Response, ResponseFlags, ServeAnswer, ServeRefusal, reply, told, told_to, request_read, longest, Format, Lawful}
 use Rattle.link.proofs.Freshness.{fresh_runs}
 use Rattle.link.proofs.Holds.{marked_runs, held_runs}
 use Rattle.link.proofs.Prompts.{prompt_runs}

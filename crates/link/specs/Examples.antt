@@ -1,5 +1,5 @@
 -- Histories that can happen: the laws speak of something.
-use Rattle.std.specs.Prelude.{◌≡◌, ℕ, ◌≤◌, Bool, true, false, cond, not, List, [], ◌∷◌, pos, Some, None, Option, refl}
+use Rattle.std.specs.Prelude.{◌≡◌, ℕ, ◌≤◌, Bool, true, false, cond, not, [], ◌∷◌, pos, Some, None, Option, refl}
 use Rattle.std.proofs.Common.{lit<, lit≤}
 use Rattle.carrier.specs.declared.lane.Lane.TheVariants.{Up, Down}
 use Rattle.record.specs.declared.meter.Meter.{Meter}
@@ -8,8 +8,8 @@ use Rattle.link.specs.Laws.{Rounds, Unacknowledged, Acknowledges, requests, most
 use Rattle.link.specs.Runs.{Call, Moment, History, Ran, consumer_at, provider_at, lanes_at}
 use Rattle.link.specs.Runs.Call.{cycled, cycle_refused, served, serve_refused, placed}
 use Rattle.link.specs.Words.{Lane, Brought, Message, Lanes, first_of, steady_fetch, full, steady_place, steady_answer}
-use Rattle.link.specs.Words.{Setup, Shown, State, TimedRequest, Inputs, turn, cycle, fetches, made, answer_of}
-use Rattle.link.specs.Words.{ResponseFlags, Response, request_octets, response_octets, Memory, reply, told, Format}
+use Rattle.link.specs.Words.{Setup, Shown, TimedRequest, Inputs, turn, cycle, fetches, made, answer_of}
+use Rattle.link.specs.Words.{ResponseFlags, Response, request_octets, response_octets, reply, told, Format}
 
 -- consumer 7, provider 1, a timeout of 100 milliseconds, an error interval of 6 minutes; the first number is 256
 abbrev pub example_setup : Setup

@@ -1,5 +1,5 @@
 -- The laws over whole runs.
-use Rattle.std.specs.Prelude.{◌≡◌, ℕ, ◌+◌, ◌*◌, ◌≤◌, Bool, true, false, ◌⊎◌, List, [], ◌∷◌, Some, None, Option, Result}
+use Rattle.std.specs.Prelude.{◌≡◌, ℕ, ◌+◌, ◌*◌, ◌≤◌, Bool, true, false, ◌⊎◌, [], ◌∷◌, Some, None, Option, Result}
 use Rattle.consumer.specs.declared.event.Turn.TheVariants.{Disabled, Started, Expired, Nothing, Ignored, Fault, Accepted}
 use Rattle.link.specs.Runs.{Call, Moment, History, Ran, lanes_at, consumer_at}
 use Rattle.link.specs.Runs.Call.{cycled, cycle_refused, served, serve_refused, placed}

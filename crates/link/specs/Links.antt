@@ -1,5 +1,5 @@
 -- What a call on a link says of every history that led to it.
-use Rattle.std.specs.Prelude.{◌≡◌, ◌≤◌, Bool, List, [], ◌∷◌, Ok, Err, Result}
+use Rattle.std.specs.Prelude.{◌≡◌, ◌≤◌, Bool, ◌∷◌, Ok, Err, Result}
 use Rattle.consumer.specs.declared.consumer.Consumer.{Consumer}
 use Rattle.consumer.specs.declared.event.CycleRefusal.{CycleRefusal}
 use Rattle.provider.specs.declared.answer.ServeRefusal.TheVariants.{ShortBuffer, UnsoundRecord, NotARequest, Full}

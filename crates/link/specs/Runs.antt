@@ -1,11 +1,10 @@
 -- Histories: what can happen on a link, call after call.
-use Rattle.std.specs.Prelude.{◌≡◌, ℕ, ◌+◌, Bool, true, false, ◌⊎◌, List, [], ◌∷◌, length, Some, None, Ok, Err, Option, Result, ◌≢◌}
+use Rattle.std.specs.Prelude.{◌≡◌, ℕ, ◌+◌, Bool, true, false, ◌⊎◌, List, [], ◌∷◌, length, None, Result, ◌≢◌}
 use Rattle.carrier.specs.declared.lane.Lane.TheVariants.{Up, Down}
-use Rattle.carrier.specs.declared.lane.PlaceRefusal.TheVariants.{Full}
 use Rattle.provider.specs.declared.answer.ServeRefusal.TheVariants.{ShortBuffer, UnsoundRecord}
 use Rattle.link.specs.Words.{Lane, PlaceRefusal, Brought, Got, Message, Lanes, HasSlots, Placed}
-use Rattle.link.specs.Words.{CycleAnswer, Setup, State, TimedRequest, Inputs, fresh, turn, fetches, cycle, made, answer_of}
-use Rattle.link.specs.Words.{ResponseFlags, Identities, Parameters, Response, identities_of, request_octets, response_octets, sound, u32_at}
+use Rattle.link.specs.Words.{CycleAnswer, Setup, State, Inputs, fresh, turn, fetches, cycle, made, answer_of}
+use Rattle.link.specs.Words.{ResponseFlags, Identities, Parameters, identities_of, sound, u32_at}
 use Rattle.link.specs.Words.{ServeAnswer, ServeRefusal, Memory, reply, remembered, told}
 use Rattle.link.specs.Words.{Format, Octets}
 pub use Rattle.carrier.specs.Place.{place_answer}

@@ -1,11 +1,9 @@
 -- A response that was built is read back.
-use Rattle.std.proofs.Common.{◌≡◌, ℕ, zero, suc, ◌+◌, ◌-◌, ◌*◌, ◌^◌, ◌<◌, ◌≤◌, Bool, true, false, cond, eqb, List, [], ◌∷◌, ◌++◌, length, get_or, take, drop, Ok, Err, sym, refl, ap, ◌∙◌, add-zero, arith, lit<}
+use Rattle.std.proofs.Common.{◌≡◌, ℕ, zero, suc, ◌+◌, ◌-◌, ◌*◌, ◌^◌, ◌<◌, Bool, true, false, cond, eqb, List, [], ◌∷◌, ◌++◌, length, get_or, take, drop, Ok, Err, sym, refl, ap, ◌∙◌, add-zero, arith, lit<}
 use lib.Bits.{bit_xor, xor_lt}
 use Rattle.std.proofs.lemmas.List.{append_assoc, length-append, take_at, drop_at, drop-drop, get_or-drop}
 use Rattle.std.proofs.lemmas.Bool.{eq-eqb, cond_both}
 use Rattle.message.specs.declared.fault.MessageFault.TheVariants.{Consumer}
-use Rattle.message.specs.declared.flags.ResponseFlags.{ResponseFlags}
-use Rattle.message.specs.declared.identity.Identities.{Identities}
 use Rattle.message.specs.declared.parameters.Parameters.{Parameters}
 use Rattle.message.specs.declared.response.Response.{Response}
 use Rattle.message.specs.Check.{checked, carried, record_read}

@@ -8,7 +8,7 @@ use Rattle.carrier.specs.declared.lane.Lane.TheVariants.{Up, Down}
 use Rattle.carrier.specs.declared.lane.PlaceRefusal.{PlaceRefusal}
 use Rattle.carrier.specs.declared.lane.PlaceRefusal.TheVariants.{Full}
 use Rattle.carrier.specs.Fetch.{Fetched, brought_in}
-use Rattle.carrier.specs.Lanes.{Message, Lanes}
+use Rattle.carrier.specs.Lanes.{Lanes}
 use Rattle.carrier.specs.Place.{Placed, place_answer}
 use Rattle.message.proofs.Builds.{response_long, built_sound, built_start, built_message}
 use Rattle.message.specs.declared.flags.ResponseFlags.{ResponseFlags}

@@ -1,5 +1,5 @@
 -- What a serve answers, sends and remembers.
-use Rattle.std.specs.Prelude.{ℕ, Bool, true, false, cond, ◌&&◌, List, Some, None, Ok, Err, Option, Result, ◌==◌}
+use Rattle.std.specs.Prelude.{ℕ, Bool, false, cond, ◌&&◌, Some, None, Ok, Err, Option, Result, ◌==◌}
 use Rattle.carrier.specs.Fetch.{Brought}
 use Rattle.message.specs.declared.flags.ResponseFlags.{ResponseFlags}
 use Rattle.message.specs.declared.request.Request.{Request}

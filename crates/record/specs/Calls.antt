@@ -1,5 +1,5 @@
 -- What the calls of a record kind answer, and what they leave in a slice.
-use Rattle.std.specs.Prelude.{ℕ, Bool, true, false, cond, not, List, ◌++◌, length, drop, Ok, Err, Result, ◌==◌, nat_lt}
+use Rattle.std.specs.Prelude.{ℕ, cond, List, ◌++◌, length, drop, Ok, Err, Result, ◌==◌, nat_lt}
 use Rattle.record.specs.declared.fault.EncodeRefusal.{EncodeRefusal}
 use Rattle.record.specs.declared.fault.EncodeRefusal.TheVariants.{Short, Unsound}
 use Rattle.record.specs.declared.fault.RecordFault.{RecordFault}

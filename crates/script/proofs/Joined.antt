@@ -1,5 +1,5 @@
 -- Texts joined of parts that are known by an equation.
-use Rattle.std.proofs.Common.{◌≡◌, ℕ, List, ◌++◌, codes, decimal, refl, ap, ◌∙◌}
+use Rattle.std.proofs.Common.{◌≡◌, ℕ, List, ◌++◌, codes, decimal, ap, ◌∙◌}
 use Rattle.message.specs.Flags.{request_octet}
 use Rattle.message.specs.declared.request.Request.{Request}
 use Rattle.script.specs.Texts.{answered_text}

@@ -1,5 +1,5 @@
 -- The text of records.
-use Rattle.std.specs.Prelude.{ℕ, ◌+◌, ◌-◌, ◌*◌, ◌/◌, ◌%◌, ◌^◌, Bool, cond, List, [], ◌∷◌, ◌++◌, codes, decimal, nat_lt, to_bits, Float}
+use Rattle.std.specs.Prelude.{ℕ, ◌+◌, ◌-◌, ◌/◌, ◌%◌, ◌^◌, Bool, cond, List, [], ◌∷◌, ◌++◌, codes, decimal, nat_lt, to_bits, Float}
 use Rattle.std.specs.Float.{binary64}
 use Rattle.std.specs.Fmt.{signed_decimal}
 use Rattle.record.specs.declared.draw.Draw.{Draw}

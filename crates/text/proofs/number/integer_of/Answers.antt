@@ -1,6 +1,6 @@
 use Rattle.std.proofs.Common.{◌≡◌, ◌^◌, drop, Some, None, sym, ap, ◌∙◌}
 use Rattle.std.proofs.lemmas.List.{take_rest}
-use Rattle.text.specs.Number.{below, numeral, negative, integer}
+use Rattle.text.specs.Number.{below, numeral, integer}
 use Rattle.text.proofs.Numerals.{after_minus, negative_kept, negative_none}
 use Rattle.text.proofs.number.integer_of.Goals as goal
 

@@ -1,4 +1,4 @@
-use Rattle.std.proofs.Common.{◌≡◌, false, Some, None, Ok, sym, ◌∙◌, rules}
+use Rattle.std.proofs.Common.{◌≡◌, Some, None, Ok, sym, ◌∙◌, rules}
 use Rattle.consumer.proofs.Meeting.{met_disabled, met_started, met_expired, met_nothing, met_message}
 use Rattle.consumer.proofs.consumer.Consumer.meet.Goals as goal
 

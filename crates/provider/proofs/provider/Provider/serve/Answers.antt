@@ -1,8 +1,4 @@
-use Rattle.std.proofs.Common.{◌≡◌, ◌-◌, true, take, Some, Ok, Err, sym, refl, ◌∙◌, subst, arith}
-use Rattle.carrier.specs.declared.lane.Lane.TheVariants.{Up, Down}
-use Rattle.carrier.specs.Fetch.{Fetched}
-use Rattle.carrier.specs.Place.{Placed}
-use Rattle.message.specs.Layout.{request_read}
+use Rattle.std.proofs.Common.{◌≡◌, Some, Ok, sym, refl, ◌∙◌, arith}
 use Rattle.provider.proofs.Serving.{served_taken, served_full}
 use Rattle.provider.proofs.provider.Provider.serve.Goals as goal
 
