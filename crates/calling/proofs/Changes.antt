@@ -1,6 +1,6 @@
 -- Chains, where slots change.
 use Rattle.std.proofs.Common.{◌≡◌, ℕ, zero, suc, ◌≤◌, Bool, false, cond, eqb, ◌≢◌, List, [], ◌∷◌, ◌++◌, map, length, sym, refl, ap, ◌∙◌, subst, ⊎_elim, append_assoc, arith, length-append}
-use Rattle.std.specs.List.{AllByRecursion as All}
+use Rattle.std.specs.List.{AllByRecursion}
 use Rattle.std.proofs.ByRecursion.{All-push}
 use Rattle.std.proofs.lemmas.List.{map_push}
 use Rattle.std.proofs.lemmas.Bool.{ne_eqb, cases_eq}
@@ -10,7 +10,7 @@ use Rattle.calling.specs.Slots.{Slot, Changed}
 use Rattle.carrier.specs.Lanes.{Message}
 
 -- what is met is the chain
-pub met_is : (n b : ℕ) (at : ℕ → Slot) (h : ℕ) (ks : List ℕ) → Chain at h ks → All (SlotNumber b) ks → length ks ≤ n → met n at h ≡ ks
+pub met_is : (n b : ℕ) (at : ℕ → Slot) (h : ℕ) (ks : List ℕ) → Chain at h ks → AllByRecursion (SlotNumber b) ks → length ks ≤ n → met n at h ≡ ks
 unfolding met
 met_is zero b at h [] c r l = refl
 met_is zero b at h (k ∷ ks) c r l = absurd (omega arith)
@@ -22,11 +22,11 @@ met_is (suc n) b at h (k ∷ ks) c r l =
 
 -- Lists of slot numbers.
 
-pub all_parts : (P : ℕ → Type 0) (us vs : List ℕ) → All P (us ++ vs) → All P us × All P vs
+pub all_parts : (P : ℕ → Type 0) (us vs : List ℕ) → AllByRecursion P (us ++ vs) → AllByRecursion P us × AllByRecursion P vs
 all_parts P [] vs h = (tt, h)
 all_parts P (u ∷ us) vs h = let r = all_parts P us vs h.1 in ((h.0, r.0), r.1)
 
-all_moved : (P : ℕ → Type 0) (k : ℕ) (us vs : List ℕ) → All P (k ∷ (us ++ vs)) → All P (us ++ k ∷ vs)
+all_moved : (P : ℕ → Type 0) (k : ℕ) (us vs : List ℕ) → AllByRecursion P (k ∷ (us ++ vs)) → AllByRecursion P (us ++ k ∷ vs)
 all_moved P k [] vs h = h
 all_moved P k (u ∷ us) vs h = (h.1.0, all_moved P k us vs (h.0, h.1.1))
 
@@ -43,7 +43,7 @@ once_moved n k us vs o = record {
 }
 
 -- no other slot has the number k
-apart_at : (us : List ℕ) (k : ℕ) (vs : List ℕ) → Distinct (us ++ k ∷ vs) → All (λ j. j ≢ k) us × All (λ j. j ≢ k) vs
+apart_at : (us : List ℕ) (k : ℕ) (vs : List ℕ) → Distinct (us ++ k ∷ vs) → AllByRecursion (λ j. j ≢ k) us × AllByRecursion (λ j. j ≢ k) vs
 apart_at [] k vs d = (tt, d.0)
 apart_at (u ∷ us) k vs d =
     let r = apart_at us k vs d.1 in
@@ -71,17 +71,17 @@ message_of s = s.message
 
 module _ (at at' : ℕ → Slot) (k : ℕ) (says : Slot) (change : Changed at at' k says) where
   -- chains without k stand, and so do their messages
-  pub chain_stands : (h : ℕ) (ks : List ℕ) → All (λ j. j ≢ k) ks → Chain at h ks → Chain at' h ks
+  pub chain_stands : (h : ℕ) (ks : List ℕ) → AllByRecursion (λ j. j ≢ k) ks → Chain at h ks → Chain at' h ks
   chain_stands h [] n c = c
   chain_stands h (j ∷ ks) n c =
       (c.0, subst (λ z. Chain at' z ks) (sym (ap next_of (change.others j n.0))) (chain_stands (at j).next ks n.1 c.1))
 
-  messages_stand : (ks : List ℕ) → All (λ j. j ≢ k) ks → messages at' ks ≡ messages at ks
+  messages_stand : (ks : List ℕ) → AllByRecursion (λ j. j ≢ k) ks → messages at' ks ≡ messages at ks
   messages_stand [] n = refl
   messages_stand (j ∷ ks) n = cc (change.others j n.0, messages_stand ks n.1)
 
   -- a chain that ended at k goes on where k says
-  chain_on : (h : ℕ) (us vs : List ℕ) → All (λ j. j ≢ k) us → Chain at h (us ++ k ∷ []) → Chain at' (at' k).next vs
+  chain_on : (h : ℕ) (us vs : List ℕ) → AllByRecursion (λ j. j ≢ k) us → Chain at h (us ++ k ∷ []) → Chain at' (at' k).next vs
       → Chain at' h (us ++ k ∷ vs)
   chain_on h [] vs n c d = (c.0, d)
   chain_on h (j ∷ us) vs n c d = (
@@ -124,10 +124,10 @@ module _ (at filled : ℕ → Slot) (h : Heads) (k : ℕ) (fs : List ℕ) (m : M
     abbrev ws : List ℕ
     ws = us ++ l ∷ []
 
-    away_k : All (λ j. j ≢ k) ws × All (λ j. j ≢ k) fs
+    away_k : AllByRecursion (λ j. j ≢ k) ws × AllByRecursion (λ j. j ≢ k) fs
     away_k = apart_at ws k fs linked.slots.apart
 
-    away_l : All (λ j. j ≢ l) us × All (λ j. j ≢ l) (k ∷ fs)
+    away_l : AllByRecursion (λ j. j ≢ l) us × AllByRecursion (λ j. j ≢ l) (k ∷ fs)
     away_l = apart_at us l (k ∷ fs) (subst Distinct (append_assoc us (l ∷ []) (k ∷ fs)) linked.slots.apart)
 
     ends : joined k ≡ end
@@ -149,7 +149,7 @@ module _ (at filled : ℕ → Slot) (h : Heads) (k : ℕ) (fs : List ℕ) (m : M
           (chain_stands at filled k end fill (at k).next fs away_k.1 linked.frees.1);
       slots = subst (Once h.slots) (sym (append_assoc ws (k ∷ []) fs)) linked.slots;
       last = last_pushed k k ws;
-      sized = subst (All Sized) (sym appended) (All-push Sized (messages at ws) m linked.sized sized);
+      sized = subst (AllByRecursion Sized) (sym appended) (All-push Sized (messages at ws) m linked.sized sized);
     }
 
 -- The first slot that waits, k, goes to the front of the free ones.
@@ -172,7 +172,7 @@ module _ (at at' : ℕ → Slot) (h : Heads) (k : ℕ) (ws fs : List ℕ) (linke
           );
           slots = once_moved h.slots k ws fs linked.slots;
           last = last_kept k h.last ws linked.last;
-          sized = subst (All Sized) (sym stand) linked.sized.1;
+          sized = subst (AllByRecursion Sized) (sym stand) linked.sized.1;
         },
         stand,
       )

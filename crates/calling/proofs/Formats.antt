@@ -1,6 +1,6 @@
 -- A memory whose slots are all free.
 use Rattle.std.proofs.Common.{◌≡◌, ℕ, zero, suc, ◌+◌, ◌*◌, ◌≤◌, ◌≢◌, List, [], ◌∷◌, length, sym, refl, ap, subst, add-one, arith}
-use Rattle.std.specs.List.{AllByRecursion as All}
+use Rattle.std.specs.List.{AllByRecursion}
 use Rattle.calling.specs.Chains.{Chain, Distinct, Lawful, SlotNumber, Stored, held, no_slots}
 use Rattle.calling.specs.Slots.{Slot, Changed, slot_octets, slot_of}
 use Rattle.calling.proofs.Changes.{chain_stands}
@@ -12,7 +12,7 @@ abbrev pub after : ℕ → ℕ → List ℕ
 after zero k = []
 after (suc n) k = suc k ∷ after n (suc k)
 
-apart : (n b k : ℕ) → b ≤ k → All (λ j. j ≢ b) (after n k)
+apart : (n b k : ℕ) → b ≤ k → AllByRecursion (λ j. j ≢ b) (after n k)
 apart zero b k h = tt
 apart (suc n) b k h = ((λ e. omega arith), apart n b (suc k) (omega arith))
 
@@ -20,7 +20,7 @@ distinct : (n k : ℕ) → Distinct (after n k)
 distinct zero k = tt
 distinct (suc n) k = (apart n (suc k) (suc k) (omega arith), distinct n (suc k))
 
-ranges : (n k b : ℕ) → n + k ≤ b → All (SlotNumber b) (after n k)
+ranges : (n k b : ℕ) → n + k ≤ b → AllByRecursion (SlotNumber b) (after n k)
 ranges zero k b h = tt
 ranges (suc n) k b h = ((omega arith, omega arith), ranges n (suc k) b (omega arith))
 

@@ -1,6 +1,6 @@
 -- What the lanes do to their memories is what the carrier's meaning asks.
 use Rattle.std.proofs.Common.{◌≡◌, ℕ, ◌≤◌, max, Bool, true, false, cond, ◌&&◌, eqb, ltb, List, [], ◌∷◌, ◌++◌, length, Ok, Err, Option, sym, refl, ap, ◌∙◌, subst, arith}
-use Rattle.std.specs.List.{AllByRecursion as All}
+use Rattle.std.specs.List.{AllByRecursion}
 use Rattle.std.proofs.lemmas.Bool.{and_parts, ltb-true}
 use Rattle.calling.specs.Chains.{Lawful, Sized, Stored, held, no_slots}
 use Rattle.calling.specs.Lane.{Appends, Takes, crowded}
@@ -72,7 +72,7 @@ places l u d w m r z steady p =
     ∙ puts l u d m (crowded s) f))
     (p.answers ∙ ap (λ x. cond x (Err Full) (Ok tt)) (sym f))
 
-first_lengthy : (ms : List Message) → All Sized ms → Lengthy (first_of ms)
+first_lengthy : (ms : List Message) → AllByRecursion Sized ms → Lengthy (first_of ms)
 first_lengthy [] h = tt
 first_lengthy (m ∷ ms) h = h.0
 

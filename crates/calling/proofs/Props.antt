@@ -5,12 +5,12 @@ use mathlib.Core.HLevel.{×_prop}
 use native.Mathlib.Bridge.{le_prop}
 use native.Mathlib.Nat.{ℕ_set}
 use denote.Struct.Props.{props}
-use Rattle.std.specs.List.{AllByRecursion as All}
+use Rattle.std.specs.List.{AllByRecursion}
 use Rattle.calling.specs.declared.chains.Heads.{Heads}
 use Rattle.calling.specs.Chains.{Chain, Distinct, Lawful, Linked, SlotNumber, Once, Sized, Stored, free_slots, messages, waiting_slots}
 use Rattle.calling.specs.Slots.{Slot, slot_of}
 
-all_prop : {X : Type 0} (P : X → Type 0) → ((x : X) → IsProp (P x)) → (xs : List X) → IsProp (All P xs)
+all_prop : {X : Type 0} (P : X → Type 0) → ((x : X) → IsProp (P x)) → (xs : List X) → IsProp (AllByRecursion P xs)
 all_prop P h [] = hlevel props
 all_prop P h (x ∷ xs) = ×_prop (h x) (all_prop P h xs)
 

@@ -1,6 +1,6 @@
 -- Place and fetch in a lawful lane memory.
 use Rattle.std.proofs.Common.{◌≡◌, ℕ, ◌*◌, ◌<◌, ◌≤◌, true, false, List, [], ◌∷◌, ◌++◌, length, Some, None, Ok, Err, sym, refl, ap, ◌∙◌, subst, arith, length-append}
-use Rattle.std.specs.List.{AllByRecursion as All}
+use Rattle.std.specs.List.{AllByRecursion}
 use Rattle.std.proofs.lemmas.List.{length-map}
 use Rattle.std.proofs.lemmas.Bool.{eq-eqb, ne_eqb, cond-true, cond-false}
 use Rattle.calling.specs.declared.chains.Heads.{Heads}
@@ -34,7 +34,7 @@ starts : (at : ℕ → Slot) (h : ℕ) (ks : List ℕ) → Chain at h ks → 0 <
 starts at h [] c p = absurd (omega arith)
 starts at h (k ∷ ks) c p = (ks, ap (λ j. j ∷ ks) (sym c.0))
 
-ended : (n : ℕ) (at : ℕ → Slot) (h : ℕ) (ks : List ℕ) → Chain at h ks → All (SlotNumber n) ks → h ≡ 0 → ks ≡ []
+ended : (n : ℕ) (at : ℕ → Slot) (h : ℕ) (ks : List ℕ) → Chain at h ks → AllByRecursion (SlotNumber n) ks → h ≡ 0 → ks ≡ []
 ended n at h [] c r z = refl
 ended n at h (k ∷ ks) c r z = absurd (omega (arith, c.0, r.0.0))
 
@@ -49,7 +49,7 @@ module _ (s : Stored) (law : Lawful s) where
   abbrev then : List ℕ → ℕ → ℕ → ℕ → Stored
   then o first last free = record { octets = o; heads = record { slots = h.slots; first = first; last = last; free = free } }
 
-  range : All (SlotNumber h.slots) (waiting_slots s) × All (SlotNumber h.slots) (free_slots s)
+  range : AllByRecursion (SlotNumber h.slots) (waiting_slots s) × AllByRecursion (SlotNumber h.slots) (free_slots s)
   range = all_parts (SlotNumber h.slots) (waiting_slots s) (free_slots s) law.linked.slots.range
 
   within : (k : ℕ) → SlotNumber h.slots k → Within s.octets k
@@ -59,7 +59,7 @@ module _ (s : Stored) (law : Lawful s) where
   unfolding held
   length_held = length-map (waiting_slots s) (λ k. (at k).message)
 
-  pub all_sized : All Sized (held s)
+  pub all_sized : AllByRecursion Sized (held s)
   unfolding held
   all_sized = law.linked.sized
 
@@ -70,7 +70,7 @@ module _ (s : Stored) (law : Lawful s) where
     some_first = starts at h.first (waiting_slots s) law.linked.waits p
 
     pub first_within : Within s.octets h.first
-    first_within = within h.first (subst (All (SlotNumber h.slots)) some_first.1 range.0).0
+    first_within = within h.first (subst (AllByRecursion (SlotNumber h.slots)) some_first.1 range.0).0
 
     some_last : (us : List ℕ) × (waiting_slots s ≡ us ++ h.last ∷ [])
     some_last =
@@ -80,7 +80,7 @@ module _ (s : Stored) (law : Lawful s) where
 
     pub last_within : Within s.octets h.last
     last_within =
-        let all = subst (All (SlotNumber h.slots)) some_last.1 range.0 in
+        let all = subst (AllByRecursion (SlotNumber h.slots)) some_last.1 range.0 in
         within h.last (all_parts (SlotNumber h.slots) some_last.0 (h.last ∷ []) all).1.0
 
     held_first : held s ≡ (at h.first).message ∷ messages at some_first.0
@@ -88,7 +88,7 @@ module _ (s : Stored) (law : Lawful s) where
     held_first = ap (messages at) some_first.1
 
     pub first_sized : Sized (at h.first).message
-    first_sized = (subst (All Sized) held_first all_sized).0
+    first_sized = (subst (AllByRecursion Sized) held_first all_sized).0
 
     pub takes : (o : List ℕ) (f : ℕ) (buffer buffer' : List ℕ) (n : ℕ) → length o ≡ length s.octets → f ≡ (at h.first).next
         → Changed at (slot_of o) h.first (record { next = h.free; message = (at h.first).message })
@@ -148,7 +148,7 @@ module _ (s : Stored) (law : Lawful s) where
     free_linked = subst (λ ks. Linked at h (waiting_slots s) ks) some_free.1 law.linked
 
     pub free_within : Within s.octets h.free
-    free_within = within h.free (subst (All (SlotNumber h.slots)) some_free.1 range.1).0
+    free_within = within h.free (subst (AllByRecursion (SlotNumber h.slots)) some_free.1 range.1).0
 
     -- a lawful memory that holds one message more
     grows : (b : Stored) (m : Message) → Lawful b → b.heads.slots ≡ h.slots → held b ≡ held s ++ m ∷ [] → Appends s b m (Ok tt)

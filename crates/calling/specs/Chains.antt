@@ -1,6 +1,6 @@
 -- The two chains of a lane memory: the slots whose messages wait, and the free ones.
 use Rattle.std.specs.Prelude.{◌≡◌, ℕ, zero, suc, ◌*◌, ◌≤◌, cond, ◌≢◌, List, [], ◌∷◌, ◌++◌, map, length, ◌==◌}
-use Rattle.std.specs.List.{AllByRecursion as All}
+use Rattle.std.specs.List.{AllByRecursion}
 use Rattle.calling.specs.declared.chains.Heads.{Heads}
 use Rattle.calling.specs.Slots.{Slot, slot_octets, slot_of}
 use Rattle.carrier.specs.Lanes.{Message}
@@ -41,7 +41,7 @@ Chain at head (k ∷ ks) = (head ≡ k) × Chain at (at k).next ks
 -- no number stands twice
 abbrev pub Distinct : List ℕ → Type 0
 Distinct [] = Unit
-Distinct (k ∷ ks) = All (λ j. j ≢ k) ks × Distinct ks
+Distinct (k ∷ ks) = AllByRecursion (λ j. j ≢ k) ks × Distinct ks
 
 -- one of the numbers 1 to n
 abbrev pub SlotNumber : ℕ → ℕ → Type 0
@@ -49,7 +49,7 @@ SlotNumber n k = (1 ≤ k) × (k ≤ n)
 
 -- each of the slots 1 to n stands here once
 pub record Once (n : ℕ) (ks : List ℕ) : Type 0 where
-  pub range : All (SlotNumber n) ks
+  pub range : AllByRecursion (SlotNumber n) ks
   pub apart : Distinct ks
   pub count : length ks ≡ n
 
@@ -69,7 +69,7 @@ pub record Linked (at : ℕ → Slot) (h : Heads) (ws fs : List ℕ) : Type 0 wh
   pub slots : Once h.slots (ws ++ fs)
   -- the last slot that waits; where none waits, nothing is said of it
   pub last : last_or h.last ws ≡ h.last
-  pub sized : All Sized (messages at ws)
+  pub sized : AllByRecursion Sized (messages at ws)
 
 -- what always holds of a lane memory
 pub record Lawful (s : Stored) : Type 0 where

@@ -158,13 +158,13 @@ fn check_bad(rt: &impl Abort, heap: Global, (line, expected): Bad) -> Result<(),
     };
     let said = format!(in heap; "{bad}")?;
     let whole = format!(in heap; "line 12: expected {expected}")?;
-    assert!(rt; said.as_str() == whole.as_str());
+    assert!(rt; said.as_str() == whole.as_str(), "{line}");
     Ok(())
 }
 
 fn check_all(rt: &impl Abort, heap: Global, table: &[Bad]) -> Result<(), Fail> {
     for bad in table {
-        check_bad(rt, heap, *bad).note(bad.0)?;
+        check_bad(rt, heap, *bad)?;
     }
     Ok(())
 }

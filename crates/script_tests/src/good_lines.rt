@@ -88,7 +88,7 @@ fn memories_and_codes(rt: HostRuntime) -> Result<(), Fail> {
         Line::Setting {
             setting: Setting::Disturb { codes },
         } => {
-            assert!(rt; codes.as_slice() == &[0, 3, 255, 255, 255]);
+            assert!(rt; codes.as_slice() == [0, 3, 255, 255, 255].as_slice());
             Ok(())
         },
         _ => Err(Fail::new("no codes")),
