@@ -1,7 +1,7 @@
 ghost use Rattle.std.specs.Prelude.{◌≡◌, ℕ, List, IfOk, string_bytes, Option};
 ghost use Rattle.script.specs.declared.line.Given.{Given};
 ghost use Rattle.script.specs.Givens.{meter_given, draw_given};
-ghost use Rattle.script.specs.Records.{validity as validity-of, meter_text, draw_text};
+ghost use Rattle.script.specs.Records.{validity as validity_of, meter_text, draw_text};
 
 use crate::capitals::double_text;
 use crate::line::Given;
@@ -26,7 +26,7 @@ pub trait Written: RecordKind {
 }
 
 fn validity(valid: bool) -> &'static str
-    ensures { result.now ≡ validity-of valid }
+    ensures { result.now ≡ validity_of valid }
 {
     if valid { "valid" } else { "invalid" }
 }
