@@ -1,5 +1,6 @@
 ghost use Rattle.std.specs.Prelude.{◌≡◌, Some};
 ghost use Rattle.script.specs.Messages.{expected_text, bad_line_text};
+ghost use Rattle.script.specs.declared.expected.LineFault.TheVariants.{Memory};
 
 use std::alloc::{AllocError, AllocFailed};
 use std::fmt;
@@ -83,12 +84,16 @@ pub enum LineFault {
 }
 
 impl From<AllocError> for LineFault {
+    ghost from_gives = { λ e r. r ≡ Memory };
+
     fn from(_e: AllocError) -> LineFault {
         LineFault::Memory
     }
 }
 
 impl<T: Drop> From<AllocFailed<T>> for LineFault {
+    ghost from_gives = { λ e r. r ≡ Memory };
+
     fn from(_e: AllocFailed<T>) -> LineFault {
         LineFault::Memory
     }
