@@ -2,5 +2,4 @@ pub mod Slots
 pub mod Changes
 pub mod Stores
 pub mod Formats
-pub mod Props
 pub mod Meanings

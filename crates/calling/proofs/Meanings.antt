@@ -2,12 +2,10 @@
 use Rattle.std.proofs.Common.{◌≡◌, ℕ, ◌≤◌, max, Bool, true, false, cond, ◌&&◌, eqb, ltb, List, [], ◌∷◌, ◌++◌, length, Ok, Err, Option, sym, refl, ap, ◌∙◌, subst, arith}
 use Rattle.std.specs.List.{AllByRecursion}
 use Rattle.std.proofs.lemmas.Bool.{and_parts, ltb-true}
-use Rattle.calling.specs.Chains.{Lawful, Sized, Stored, held, no_slots}
+use Rattle.calling.specs.Chains.{Sized, Stored, held, no_slots}
 use Rattle.calling.specs.Lane.{Appends, Takes, crowded}
 use Rattle.calling.specs.Meaning.{both_whole, lanes_of, made_over, means}
 use Rattle.calling.proofs.Formats.{unused}
-use Rattle.calling.proofs.Props.{opened}
-use Rattle.calling.proofs.Stores.{all_sized}
 use Rattle.carrier.specs.declared.lane.Lane.{Lane}
 use Rattle.carrier.specs.declared.lane.Lane.TheVariants.{Up, Down}
 use Rattle.carrier.specs.declared.lane.PlaceRefusal.TheVariants.{Full}
@@ -76,14 +74,13 @@ first_lengthy : (ms : List Message) → AllByRecursion Sized ms → Lengthy (fir
 first_lengthy [] h = tt
 first_lengthy (m ∷ ms) h = h.0
 
-pub brings : (l : Lane) (u d w : Stored) (s t : List ℕ) (r : Option ℕ) → longest ≤ length s → ∥ Lawful (own l u d) ∥₁
-    → Takes (own l u d) w s t r → Fetched l (means u d) (after l u d w) s t (Ok r)
-brings l u d w s t r long law p =
+pub brings : (l : Lane) (u d w : Stored) (s t : List ℕ) (r : Option ℕ) → longest ≤ length s → Takes (own l u d) w s t r → Fetched l (means u d) (after l u d w) s t (Ok r)
+brings l u d w s t r long p =
     let a = means u d in
     let o = own l u d in
     let e = sym (holds l u d) in
     steady_fetched a l (after l u d w) s t r long
-    (subst (λ ms. Lengthy (first_of ms)) e (first_lengthy (held o) (all_sized o (opened o law))))
+    (subst (λ ms. Lengthy (first_of ms)) e (first_lengthy (held o) p.sized))
     (changes l u d w p.slots ∙ ap (λ ms. with_lane l ms a) (p.holds ∙ ap rest_of e))
     (p.answers ∙ ap (λ ms. length_of (first_of ms)) e)
     (p.leaves ∙ ap (λ ms. brought_in (first_of ms) s) e)

@@ -1,32 +1,10 @@
 -- A slot's octets within a memory.
-use Rattle.std.proofs.Common.{◌≡◌, ℕ, zero, suc, ◌+◌, ◌-◌, ◌*◌, ◌/◌, ◌%◌, ◌<◌, ◌≤◌, ◌≢◌, List, [], ◌∷◌, length, take, drop, set, sym, refl, ap, ◌∙◌, ⊎_elim, arith, length-drop, length-take}
+use Rattle.std.proofs.Common.{◌≡◌, ℕ, zero, suc, ◌+◌, ◌-◌, ◌*◌, ◌<◌, ◌≤◌, ◌≢◌, List, length, take, drop, sym, refl, ap, ◌∙◌, ⊎_elim, arith}
 use borrow.Rule.Slice.PartMut.{put_mid}
 use Rattle.std.specs.List.{between}
-use Rattle.std.proofs.lemmas.List.Edits.{length-between}
-use Rattle.std.proofs.lemmas.List.{take_at}
 use Rattle.std.proofs.lemmas.Slice.{between_is, between-put_mid, take-put_mid_below, drop-put_mid}
 use Rattle.std.proofs.lemmas.Bool.{cases_lt}
-use Rattle.calling.specs.Slots.{Slot, Changed, Within, slot_octets, slot_read, slot_of, u16_at}
-use Rattle.carrier.specs.Lanes.{Message}
-use Rattle.message.specs.Response.{longest}
-
--- next number 0, the length and the message, written one after another
-abbrev filled : List ℕ → Message → List ℕ
-filled s m = put_mid 4 (4 + length m - 4) (set (set (set (set s 0 0) 1 0) 2 (length m % 256)) 3 (length m / 256)) m
-
-pub reads_filled : (s : List ℕ) (m : Message) → 4 ≤ length s → slot_read (filled s m) ≡ record { next = 0; message = m }
-reads_filled (a ∷ b ∷ c ∷ d ∷ s) m h =
-    let size = length m % 256 + length m / 256 * 256 in
-    ap (λ x. record { next = 0; message = x }) (take_at m (drop (4 + length m - 4) s) size (omega arith))
-reads_filled (a ∷ b ∷ c ∷ []) m h = absurd (omega arith)
-reads_filled (a ∷ b ∷ []) m h = absurd (omega arith)
-reads_filled (a ∷ []) m h = absurd (omega arith)
-reads_filled [] m h = absurd (omega arith)
-
--- the length that a slot says is the length of its message
-pub message_size : (s : List ℕ) → length s ≡ slot_octets → length (slot_read s).message ≤ longest
-    → u16_at s 2 ≡ length (slot_read s).message
-message_size s e h = let f = simp (length-take, length-drop) at h in simp (length-take, length-drop) (omega arith)
+use Rattle.calling.specs.Slots.{Slot, Changed, Within, slot_octets, slot_read, slot_of}
 
 -- slot k + 1, which the code has at a
 module _ (m : List ℕ) (k a : ℕ) (o : a ≡ k * slot_octets) where
@@ -66,9 +44,6 @@ module _ (m : List ℕ) (k a : ℕ) (o : a ≡ k * slot_octets) where
 pub reads_at : (m : List ℕ) (k a : ℕ) → Within m k → a ≡ (k - 1) * slot_octets → slot_read (between a (a + slot_octets) m) ≡ slot_of m k
 reads_at m zero a w o = absurd (omega arith)
 reads_at m (suc k) a w o = reads m k a (omega arith)
-
-pub long_at : (m : List ℕ) (k a : ℕ) → Within m k → a ≡ (k - 1) * slot_octets → length (between a (a + slot_octets) m) ≡ slot_octets
-long_at m k a w o = length-between m a (a + slot_octets) (omega arith) ∙ omega arith
 
 pub changes : (m : List ℕ) (k a : ℕ) (s : List ℕ) (x : Slot) → Within m k → a ≡ (k - 1) * slot_octets → length s ≡ slot_octets
     → slot_read s ≡ x → Changed (slot_of m) (slot_of (put_mid a (a + slot_octets - a) m s)) k x

@@ -59,7 +59,7 @@ module _ (s : Stored) (law : Lawful s) where
   unfolding held
   length_held = length-map (waiting_slots s) (λ k. (at k).message)
 
-  pub all_sized : AllByRecursion Sized (held s)
+  all_sized : AllByRecursion Sized (held s)
   unfolding held
   all_sized = law.linked.sized
 
@@ -90,22 +90,29 @@ module _ (s : Stored) (law : Lawful s) where
     pub first_sized : Sized (at h.first).message
     first_sized = (subst (AllByRecursion Sized) held_first all_sized).0
 
-    pub takes : (o : List ℕ) (f : ℕ) (buffer buffer' : List ℕ) (n : ℕ) → length o ≡ length s.octets → f ≡ (at h.first).next
+    pub takes : (o : List ℕ) (f : ℕ) → length o ≡ length s.octets → f ≡ (at h.first).next
         → Changed at (slot_of o) h.first (record { next = h.free; message = (at h.first).message })
-        → n ≡ length (at h.first).message → buffer' ≡ brought_in (Some (at h.first).message) buffer
-        → Takes s (then o f h.last h.first) buffer buffer' (Some n)
-    takes o f buffer buffer' n long e join size leaves =
+        → Lawful (then o f h.last h.first)
+        × ((buffer buffer' : List ℕ) (n : ℕ) → n ≡ length (at h.first).message
+        → buffer' ≡ brought_in (Some (at h.first).message) buffer
+        → Takes s (then o f h.last h.first) buffer buffer' (Some n))
+    takes o f long e join =
         let linked = subst (λ ks. Linked at h ks (free_slots s)) some_first.1 law.linked in
         let f = fetched at (slot_of o) h h.first some_first.0 (free_slots s) linked join in
         let r = settled (then o (at h.first).next h.last h.first) some_first.0 (h.first ∷ free_slots s)
         (omega (arith, law.fits)) f.0 in
-        rw e (record {
-          lawful = r.0;
-          slots = refl;
-          holds = r.1 ∙ (f.1 ∙ sym (ap rest_of held_first));
-          answers = ap Some size ∙ sym (ap (λ ms. length_of (first_of ms)) held_first);
-          leaves = leaves ∙ sym (ap (λ ms. brought_in (first_of ms) buffer) held_first);
-        })
+        rw e (
+          r.0,
+          λ buffer buffer' n size leaves.
+              record {
+                lawful = r.0;
+                slots = refl;
+                holds = r.1 ∙ (f.1 ∙ sym (ap rest_of held_first));
+                answers = ap Some size ∙ sym (ap (λ ms. length_of (first_of ms)) held_first);
+                leaves = leaves ∙ sym (ap (λ ms. brought_in (first_of ms) buffer) held_first);
+                sized = all_sized;
+              },
+        )
 
   -- no message waits
 
@@ -119,6 +126,7 @@ module _ (s : Stored) (law : Lawful s) where
         holds = none ∙ sym (ap rest_of none);
         answers = sym (ap (λ ms. length_of (first_of ms)) none);
         leaves = sym (ap (λ ms. brought_in (first_of ms) buffer) none);
+        sized = all_sized;
       }
 
   -- no slot is free

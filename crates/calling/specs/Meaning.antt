@@ -1,9 +1,7 @@
 -- What the calling carrier means.
 use Rattle.std.specs.Prelude.{◌≡◌, ℕ, ◌/◌, max, Bool, true, false, cond, ◌&&◌, List, [], length, None, Ok, Err, nat_lt}
 use Rattle.calling.specs.declared.Calling.{Calling}
-use Rattle.calling.specs.declared.lane.SlotLane.{SlotLane}
 use Rattle.calling.specs.Chains.{Stored, held}
-use Rattle.calling.specs.Lane.{stored}
 use Rattle.calling.specs.Memory.{whole_slots}
 use Rattle.calling.specs.Slots.{slot_octets}
 use Rattle.carrier.specs.declared.lane.FetchRefusal.TheVariants.{ShortBuffer}
@@ -22,19 +20,8 @@ lanes_of up n down k =
 abbrev pub means : Stored → Stored → Lanes
 means up down = lanes_of (held up) up.heads.slots (held down) down.heads.slots
 
--- the memories of its lanes, as they stand
-abbrev pub up_store : Calling → Stored
-up_store c = stored c.up.now.memory
-
-abbrev pub down_store : Calling → Stored
-down_store c = stored c.down.now.memory
-
 abbrev pub meaning : Calling → Lanes
-meaning c = means (up_store c) (down_store c)
-
--- the memory that is lent to a lane
-abbrev pub memory_of : SlotLane → List ℕ
-memory_of l = (stored l.memory).octets
+meaning c = means c.up c.down
 
 -- are both memories 1 to 16 whole slots?
 abbrev pub both_whole : List ℕ → List ℕ → Bool
@@ -57,8 +44,8 @@ made_over up down =
 -- the lanes hold what they held, and not an octet of the two memories changes
 pub record Stands (before after : Calling) : Type 0 where
   pub lanes : meaning after ≡ meaning before
-  pub up : memory_of after.up.now ≡ memory_of before.up.now
-  pub down : memory_of after.down.now ≡ memory_of before.down.now
+  pub up : after.up.octets ≡ before.up.octets
+  pub down : after.down.octets ≡ before.down.octets
 
 -- a carrier that is not steady takes nothing
 pub record TakesNothing (m : Message) (before after : Calling) (answer : place.Answer) : Type 0 where

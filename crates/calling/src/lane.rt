@@ -1,64 +1,112 @@
 ghost use Rattle.std.specs.Prelude.{◌≡◌, ◌*◌, ◌≤◌, length};
-ghost use Rattle.calling.specs.Chains.{Lawful, Sized, no_slots};
-ghost use Rattle.calling.specs.Lane.{stored, Appends, Takes, Formatted};
-ghost use Rattle.calling.specs.Memory.{whole_slots};
+ghost use Rattle.calling.specs.Chains.{no_slots};
+ghost use Rattle.calling.specs.Lane.{Appends, Takes, Formatted};
 ghost use Rattle.calling.specs.Slots.{slot_octets};
 ghost use Rattle.message.specs.Response.{longest};
 
-use crate::chains::{Heads, LaneMemory};
-use crate::memory::is_whole;
+use crate::chains::Heads;
+use crate::memory::SLOT;
+use crate::slot::{copy_out, fill_slot, link_slot, next, slot_at};
 use carrier::lane::PlaceRefusal;
+use carrier::sendable::Sendable;
+use std::marker::Model;
 
 // A lane in a lent memory; its chains are always lawful.
 #[derive(Drop)]
 pub struct SlotLane<'a> {
-    pub(crate) memory: LaneMemory<'a>,
-    ghost lawful: { ∥ Lawful (stored memory) ∥₁ },
+    memory: &'a mut [u8],
+    heads: Heads,
+}
+
+impl<'a> Model for SlotLane<'a> {
+    ghost use Rattle.calling.specs.Chains.{Stored, Lawful};
+
+    ghost Value = { Stored };
+
+    ghost view = { λ l. record { octets = l.memory.now; heads = l.heads } };
+
+    ghost invariant = { λ l. Lawful (record { octets = l.memory.now; heads = l.heads }) };
 }
 
 impl<'a> SlotLane<'a> {
-    // Nothing is written to the memory yet, and no slot is in use.
-    pub fn new(memory: &'a mut [u8]) -> SlotLane<'a>
-        ensures { stored result.memory ≡ record { octets = memory.old; heads = no_slots } }
+    // Nothing is written to the memory, and no slot is in use.
+    pub(crate) fn new(memory: &'a mut [u8]) -> SlotLane<'a>
+        ensures { result ≡ record { octets = memory.old; heads = no_slots } }
     {
-        let memory = LaneMemory {
-            octets: memory,
-            heads: Heads::none(),
+        let heads = Heads::default();
+        SlotLane { memory, heads }
+    }
+
+    // Chains every slot of the memory as a free one.
+    pub(crate) fn formatted(memory: &'a mut [u8]) -> SlotLane<'a>
+        requires { length memory.old ≤ 16 * slot_octets }
+        ensures { Formatted memory.old result }
+    {
+        let slots = (memory.len() / SLOT) as u16;
+        let mut free = 0;
+        for k in (1..=slots).rev() {
+            link_slot(memory, k, free);
+            free = k;
+        }
+        let heads = Heads {
+            slots,
+            free,
+            ..Heads::default()
         };
-        SlotLane { memory }
+        SlotLane { memory, heads }
     }
 
-    pub(crate) fn is_whole(&self) -> bool
-        ensures { result ≡ whole_slots (length (stored self.now.memory).octets) }
+    pub(crate) fn slots(&self) -> u16
+        ensures { result ≡ self.now.heads.slots }
     {
-        is_whole(self.memory.octets)
+        self.heads.slots
     }
 
-    pub(crate) fn format(&mut self)
-        requires { length (stored self.old.memory).octets ≤ 16 * slot_octets }
-        ensures { Formatted (stored self.old.memory) (stored self.new.memory) }
+    // Puts a message into a free slot, behind those that wait.
+    pub(crate) fn place(&mut self, message: Sendable<'_>) -> Result<(), PlaceRefusal>
+        ensures { Appends self.old self.new message.entry.octets.now result }
     {
-        self.memory.format();
+        let h = self.heads;
+        let k = h.free;
+        if k == 0 {
+            return Err(PlaceRefusal::Full);
+        }
+        let memory = &mut *self.memory;
+        let free = next(slot_at(memory, k));
+        fill_slot(memory, k, message);
+        if h.first == 0 {
+            self.heads = Heads {
+                first: k,
+                last: k,
+                free,
+                ..h
+            };
+            return Ok(());
+        }
+        link_slot(memory, h.last, k);
+        self.heads = Heads { last: k, free, ..h };
+        Ok(())
     }
 
-    pub(crate) fn close(&mut self)
-        ensures { stored self.new.memory ≡ record { octets = (stored self.old.memory).octets; heads = no_slots } }
-    {
-        self.memory.close();
-    }
-
-    pub(crate) fn place(&mut self, message: &[u8]) -> Result<(), PlaceRefusal>
-        requires { Sized message.now }
-        ensures { Appends (stored self.old.memory) (stored self.new.memory) message.now result }
-    {
-        self.memory.place(message)
-    }
-
+    // Writes the oldest message to the start of a buffer; its slot is free then.
     pub(crate) fn fetch(&mut self, buffer: &mut [u8]) -> Option<usize>
         requires { longest ≤ length buffer.old }
-        ensures { Takes (stored self.old.memory) (stored self.new.memory) buffer.old
-            buffer.new result }
+        ensures { Takes self.old self.new buffer.old buffer.new result }
     {
-        self.memory.fetch(buffer)
+        let h = self.heads;
+        let k = h.first;
+        if k == 0 {
+            return None;
+        }
+        let memory = &mut *self.memory;
+        let first = next(slot_at(memory, k));
+        let size = copy_out(slot_at(memory, k), buffer);
+        link_slot(memory, k, h.free);
+        self.heads = Heads {
+            first,
+            free: k,
+            ..h
+        };
+        Some(size)
     }
 }

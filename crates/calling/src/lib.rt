@@ -2,55 +2,60 @@
 #![tactic(auto)]
 
 ghost use Rattle.std.specs.Prelude.{◌≡◌, false};
-ghost use Rattle.calling.specs.Meaning.{meaning, memory_of, both_whole, made_over, TakesNothing, BringsNothing};
+ghost use Rattle.calling.specs.Meaning.{meaning, both_whole, made_over, TakesNothing, BringsNothing};
 ghost use Rattle.calling.specs.MeaningLemmas.{some_slots};
 ghost use Rattle.carrier.specs.Place.{Placed};
 ghost use Rattle.carrier.specs.Fetch.{Fetched};
 
 mod chains;
-pub mod lane;
+mod lane;
 pub mod memory;
 mod slot;
 
 use carrier::Carrier;
 use carrier::lane::{FetchRefusal, Lane, PlaceRefusal};
+use carrier::sendable::Sendable;
 use lane::SlotLane;
+use memory::is_whole;
+use message::response::LONGEST;
 
 // Messages are placed and fetched by calls at both ends; a fetched message is gone.
 #[derive(Drop)]
-pub struct Calling<'a, 'b, 'm, 'n> {
-    up: &'a mut SlotLane<'m>,
-    down: &'b mut SlotLane<'n>,
+pub struct Calling<'m, 'n> {
+    up: SlotLane<'m>,
+    down: SlotLane<'n>,
 }
 
-impl<'a, 'b, 'm, 'n> Calling<'a, 'b, 'm, 'n> {
-    // Both lanes are made anew, and empty. If either memory is not 1 to 16 whole slots, the carrier takes and brings
-    // nothing, and neither memory is ever written.
-    pub fn new(up: &'a mut SlotLane<'m>, down: &'b mut SlotLane<'n>) -> Calling<'a, 'b, 'm, 'n>
-        ensures means { meaning result ≡ made_over (memory_of up.old) (memory_of down.old) }
-        ensures stands { both_whole (memory_of up.old) (memory_of down.old) ≡ false
-            → (memory_of result.up.now ≡ memory_of up.old) × (memory_of result.down.now ≡ memory_of down.old) }
+impl<'m, 'n> Calling<'m, 'n> {
+    // Both lanes are empty. If either memory is not 1 to 16 whole slots, the carrier takes and brings nothing, and neither
+    // memory is ever written.
+    pub fn new(up: &'m mut [u8], down: &'n mut [u8]) -> Calling<'m, 'n>
+        ensures means { meaning result ≡ made_over up.old down.old }
+        ensures stands { both_whole up.old down.old ≡ false
+            → (result.up.octets ≡ up.old) × (result.down.octets ≡ down.old) }
     {
-        let whole = up.is_whole() && down.is_whole();
+        let whole = is_whole(up) && is_whole(down);
         if !whole {
-            up.close();
-            down.close();
-            return Calling { up, down };
+            return Calling {
+                up: SlotLane::new(up),
+                down: SlotLane::new(down),
+            };
         }
-        up.format();
-        down.format();
-        Calling { up, down }
+        Calling {
+            up: SlotLane::formatted(up),
+            down: SlotLane::formatted(down),
+        }
     }
 
     // Do both lanes have slots?
     fn is_steady(&self) -> bool
         ensures { result ≡ (meaning self.now).steady }
     {
-        self.up.memory.heads.slots > 0 && self.down.memory.heads.slots > 0
+        self.up.slots() > 0 && self.down.slots() > 0
     }
 }
 
-impl<'a, 'b, 'm, 'n> Carrier for Calling<'a, 'b, 'm, 'n> {
+impl<'m, 'n> Carrier for Calling<'m, 'n> {
     ghost lanes = { λ s. meaning s };
 
     ghost slots = { some_slots };
@@ -60,9 +65,7 @@ impl<'a, 'b, 'm, 'n> Carrier for Calling<'a, 'b, 'm, 'n> {
         ensures unsteady { (meaning self.old).steady ≡ false
             → TakesNothing message.now self.old self.new result }
     {
-        if message.len() == 0 || message.len() > 1525 {
-            return Err(PlaceRefusal::Length);
-        }
+        let message = Sendable::try_from(message)?;
         if !self.is_steady() {
             return Err(PlaceRefusal::Full);
         }
@@ -77,7 +80,7 @@ impl<'a, 'b, 'm, 'n> Carrier for Calling<'a, 'b, 'm, 'n> {
         ensures unsteady { (meaning self.old).steady ≡ false
             → BringsNothing buffer.old buffer.new self.old self.new result }
     {
-        if buffer.len() < 1525 {
+        if buffer.len() < LONGEST {
             return Err(FetchRefusal::ShortBuffer);
         }
         if !self.is_steady() {

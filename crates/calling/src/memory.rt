@@ -5,13 +5,14 @@ ghost use Rattle.calling.specs.Memory.{whole_slots, memory_checked, memory_numbe
 pub const SLOT: usize = 1536;
 
 // Why a memory cannot be a lane.
-#[derive(Clone, Copy)]
+#[derive(Clone, Copy, Debug, PartialEq, Eq)]
 pub enum MemoryRefusal {
     // it is not 1 to 16 whole slots
     NotWholeSlots,
 }
 
 impl MemoryRefusal {
+    // The number that the rules of the link give it.
     pub fn number(&self) -> u8
         ensures { result ≡ memory_number self.now }
     {
@@ -26,7 +27,7 @@ pub(crate) fn is_whole(memory: &[u8]) -> bool
     ensures { result ≡ whole_slots (length memory.now) }
 {
     let octets = memory.len();
-    octets >= SLOT && octets <= 16 * SLOT && octets % SLOT == 0
+    (SLOT..=16 * SLOT).contains(&octets) && octets % SLOT == 0
 }
 
 // Tests a memory before a lane is made of it.

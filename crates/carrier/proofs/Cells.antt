@@ -1,10 +1,9 @@
 -- What a cell holds is a message.
-use Rattle.std.proofs.Common.{◌≡◌, ℕ, ◌-◌, ◌≤◌, true, false, cond, eqb, leb, List, ◌++◌, length, take, drop, Some, None, Ok, Option, sym, refl, ap, ◌∙◌, arith, length-append, length-drop, length-take}
-use Rattle.std.proofs.lemmas.List.{take_at}
-use Rattle.std.proofs.lemmas.Bool.{le-leb, le-ltb, ne_eqb, and_from, cond_both}
+use Rattle.std.proofs.Common.{◌≡◌, ℕ, ◌≤◌, true, cond, eqb, leb, List, length, Some, None, Ok, Option, sym, refl, ap, ◌∙◌, arith}
+use Rattle.std.proofs.lemmas.Bool.{le-leb, le-ltb, and_from, cond_both}
 use Rattle.carrier.specs.declared.cell.Cell.{Cell}
 use Rattle.carrier.specs.declared.lane.Lane.{Lane}
-use Rattle.carrier.specs.Cells.{held, kept_after, shown, shown_in, listed, published}
+use Rattle.carrier.specs.Cells.{held, shown, shown_in, listed, published}
 use Rattle.carrier.specs.Fetch.{Fetched, Brought, first_of, length_of, brought_in}
 use Rattle.carrier.specs.Lanes.{Message, lane_of, with_lane}
 use Rattle.carrier.specs.Place.{Placed, sendable}
@@ -14,24 +13,10 @@ use Rattle.carrier.proofs.Steady.{Lengthy, steady_placed, steady_fetched}
 pub sends : (m : Message) → 1 ≤ length m → length m ≤ longest → sendable m ≡ true
 sends m a b = and_from (leb 1 (length m)) (leb (length m) longest) (le-leb 1 (length m) a) (le-leb (length m) longest b)
 
--- the message is written over the start of the octets
-pub keeps : (before : Brought) (m octets w : Message) → 1 ≤ length m → length m ≤ longest → w ≡ m
-    → cond (eqb (length m) 0) None (Some (take (length m) (w ++ drop (length m - 0) octets))) ≡ kept_after before m
-keeps before m octets w a b e =
-    rw (ne_eqb (length m) 0 (λ z. omega arith), sends m a b, e) (ap Some (take_at m (drop (length m - 0) octets) (length m) refl))
-
-pub stays_whole : (m octets w : Message) → length m ≤ longest → w ≡ m → length octets ≡ 1525 → length (w ++ drop (length m - 0) octets) ≡ 1525
-stays_whole m octets w b e h = let f = ap length e in simp (length-append, length-drop) (omega arith)
-
 pub held_lengthy : (c : Cell) → Lengthy (held c)
 held_lengthy c =
-    let f = c.fits in
-    let w = c.whole in
-    cond_both (eqb c.size 0) None (Some (take c.size c.octets)) Lengthy (λ _. tt)
-    (λ e. let some : 1 ≤ c.size = by_cases c.size e in (simp length-take (omega arith), simp length-take (omega arith)))
-  where
-    by_cases : (n : ℕ) → eqb n 0 ≡ false → 1 ≤ n
-    by_cases n e = grind arith
+    cond_both (eqb (length c.octets.items) 0) None (Some c.octets.items) Lengthy (λ _. tt)
+    (λ e. (grind arith, c.fits))
 
 first_listed : (b : Brought) → first_of (listed b) ≡ b
 first_listed (Some m) = refl
@@ -48,10 +33,9 @@ shows l up down c s t r e long answers leaves =
     (answers ∙ ap length_of (room ∙ sym first)) (leaves ∙ ap (λ b. brought_in b s) (room ∙ sym first))
 
 -- and holds what was placed last
-pub publishes : (l : Lane) (m : Message) (up down up' down' : Cell) (c c' : Cell) → 1 ≤ length m → length m ≤ longest
-    → held c' ≡ kept_after (held c) m → published up' down' ≡ with_lane l (listed (held c')) (published up down)
+pub publishes : (l : Lane) (m : Message) (up down up' down' : Cell) (c : Cell) → sendable m ≡ true → held c ≡ Some m
+    → published up' down' ≡ with_lane l (listed (held c)) (published up down)
     → Placed l m (published up down) (published up' down') (Ok tt)
-publishes l m up down up' down' c c' a b e w =
-    let kept : held c' ≡ Some m = e ∙ ap (λ z. cond z (Some m) (held c)) (sends m a b) in
-    steady_placed l m (published up down) (published up' down') (Ok tt) (sends m a b)
-    (w ∙ ap (λ x. with_lane l (listed x) (published up down)) kept) refl
+publishes l m up down up' down' c ok e w =
+    steady_placed l m (published up down) (published up' down') (Ok tt) ok
+    (w ∙ ap (λ x. with_lane l (listed x) (published up down)) e) refl

@@ -1,10 +1,13 @@
-ghost use Rattle.std.specs.Prelude.{◌≡◌, ◌≤◌, length};
+ghost use Rattle.std.specs.Prelude.{◌≤◌};
+ghost use Rattle.arrayvec.specs.ArrayVec.{array_vec_len};
+ghost use Rattle.message.specs.Response.{longest};
 
-// A place for one message; size 0 is none.
+use arrayvec::ArrayVec;
+use message::response::LONGEST;
+
+// A place for one message. No message is without octets, so an empty vector is none.
 #[derive(Drop)]
 pub struct Cell {
-    pub(crate) octets: [u8; 1525],
-    pub(crate) size: usize,
-    ghost fits: { size ≤ 1525 },
-    ghost whole: { length octets ≡ 1525 },
+    pub(crate) octets: ArrayVec<u8, LONGEST>,
+    ghost fits: { array_vec_len octets ≤ longest },
 }

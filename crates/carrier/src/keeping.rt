@@ -1,29 +1,36 @@
-ghost use Rattle.std.specs.Prelude.{◌≡◌, None};
+ghost use Rattle.std.specs.Prelude.{◌≡◌, Some, None};
 ghost use Rattle.carrier.specs.Cells.{held, kept_after, shown, shown_in};
 ghost use Rattle.carrier.specs.Fetch.{length_of};
 
 use crate::cell::Cell;
+use crate::sendable::Sendable;
+use arrayvec::ArrayVec;
+use message::response::LONGEST;
 
 impl Cell {
     pub fn empty() -> Cell
         ensures { held result ≡ None }
     {
         Cell {
-            octets: [0; 1525],
-            size: 0,
+            octets: ArrayVec::new(),
         }
     }
 
-    // Holds a message in the place of the one before; one of no octets or over 1,525 is not held, and nothing changes.
+    // Holds a message in the place of the one before.
+    pub(crate) fn hold(&mut self, message: Sendable)
+        ensures { held self.new ≡ Some message.entry.octets.now }
+    {
+        self.octets.clear();
+        self.octets.try_extend_from_slice(message.octets()).unwrap();
+    }
+
+    // Holds octets that are a message; of no octets or over 1,525 none are held, and nothing changes.
     pub fn keep(&mut self, message: &[u8])
         ensures { held self.new ≡ kept_after (held self.old) message.now }
     {
-        let size = message.len();
-        if size == 0 || size > 1525 {
-            return;
+        if let Ok(message) = Sendable::try_from(message) {
+            self.hold(message);
         }
-        self.octets[0..size].copy_from_slice(message);
-        self.size = size;
     }
 
     // Writes the message to the start of a buffer of at least 1,525 octets; into a shorter one nothing.
@@ -31,11 +38,11 @@ impl Cell {
         ensures answer { result ≡ length_of (shown (held self.now) buffer.old) }
         ensures buffer { buffer.new ≡ shown_in (held self.now) buffer.old }
     {
-        if self.size == 0 || buffer.len() < 1525 {
+        if self.octets.is_empty() || buffer.len() < LONGEST {
             return None;
         }
-        let size = self.size;
-        buffer[0..size].copy_from_slice(&self.octets[0..size]);
+        let size = self.octets.len();
+        buffer[..size].copy_from_slice(&self.octets);
         Some(size)
     }
 }

@@ -9,6 +9,7 @@ pub mod cell;
 pub mod keeping;
 pub mod lane;
 pub mod publishing;
+pub mod sendable;
 
 use lane::{FetchRefusal, Lane, PlaceRefusal};
 

@@ -5,6 +5,8 @@ ghost use Rattle.carrier.specs.CellsLemmas.{one_slot};
 use crate::Carrier;
 use crate::cell::Cell;
 use crate::lane::{FetchRefusal, Lane, PlaceRefusal};
+use crate::sendable::Sendable;
+use message::response::LONGEST;
 
 // A carrier that publishes: each lane is a variable that holds the latest message and shows it until the next.
 #[derive(Drop)]
@@ -31,18 +33,16 @@ impl Carrier for Publishing {
     ghost slots = { λ s. one_slot s.up s.down };
 
     fn place(&mut self, lane: Lane, message: &[u8]) -> Result<(), PlaceRefusal> {
-        if message.len() == 0 || message.len() > 1525 {
-            return Err(PlaceRefusal::Length);
-        }
+        let message = Sendable::try_from(message)?;
         match lane {
-            Lane::Up => self.up.keep(message),
-            Lane::Down => self.down.keep(message),
+            Lane::Up => self.up.hold(message),
+            Lane::Down => self.down.hold(message),
         }
         Ok(())
     }
 
     fn fetch(&mut self, lane: Lane, buffer: &mut [u8]) -> Result<Option<usize>, FetchRefusal> {
-        if buffer.len() < 1525 {
+        if buffer.len() < LONGEST {
             return Err(FetchRefusal::ShortBuffer);
         }
         Ok(match lane {

@@ -1,132 +1,99 @@
 // The calling carrier: over memories that are whole slots, and over others.
 use crate::common::{BLANK, is_blank};
 use crate::disturbing::{CODES, CODES_ROWS, KEEPING, KEEPING_ROWS, follows, uses};
-use crate::lanes::{brim, nothing, refusals, whole, wrap};
+use crate::lanes::{both, brim, wrap};
 use calling::Calling;
-use calling::lane::SlotLane;
 use calling::memory::{SLOT, check_memory};
-use carrier::Carrier;
-use carrier::lane::Lane;
-use std::alloc::Global;
-
-// What is tried on a carrier.
-#[derive(Clone, Copy)]
-enum Trial {
-    // the slots of both lanes
-    Brim(u8, u8),
-    Wrap,
-    Whole,
-    Refusals,
-    Nothing,
-    // under a disturber
-    Codes,
-    Keeping,
-    Uses,
-}
-
-fn tried<C: Carrier + Drop>(trial: Trial, carrier: C) -> bool {
-    let mut carrier = carrier;
-    match trial {
-        Trial::Brim(up, down) => brim(&mut carrier, up, down),
-        Trial::Wrap => wrap(&mut carrier),
-        Trial::Whole => {
-            whole(&mut carrier, Lane::Up, Lane::Down) & whole(&mut carrier, Lane::Down, Lane::Up)
-        }
-        Trial::Refusals => { refusals(&mut carrier, Lane::Up) & refusals(&mut carrier, Lane::Down) }
-        Trial::Nothing => nothing(&mut carrier, Lane::Up) & nothing(&mut carrier, Lane::Down),
-        Trial::Codes => follows(carrier, &CODES, &CODES_ROWS),
-        Trial::Keeping => follows(carrier, &KEEPING, &KEEPING_ROWS),
-        Trial::Uses => uses(carrier),
-    }
-}
-
-fn over(trial: Trial, up_memory: &mut [u8], down_memory: &mut [u8]) -> bool {
-    let mut up = SlotLane::new(up_memory);
-    let mut down = SlotLane::new(down_memory);
-    tried(trial, Calling::new(&mut up, &mut down))
-}
-
-// Over memories of so many octets.
-fn with(heap: Global, trial: Trial, up: usize, down: usize) -> bool {
-    let Ok(mut up_memory) = vec![in heap; BLANK; up] else {
-        return false;
-    };
-    let Ok(mut down_memory) = vec![in heap; BLANK; down] else {
-        return false;
-    };
-    let good = over(trial, up_memory.as_mut_slice(), down_memory.as_mut_slice());
-    match trial {
-        Trial::Nothing => good & is_blank(&up_memory) & is_blank(&down_memory),
-        _ => good,
-    }
-}
 
 #[test]
 fn filled(rt: HostRuntime) {
-    let heap = rt.alloc();
-    let good = with(heap, Trial::Brim(1, 16), SLOT, 16 * SLOT);
-    assert!(rt; good & with(heap, Trial::Brim(16, 1), 16 * SLOT, SLOT));
+    brim(
+        &rt,
+        Calling::new(&mut [BLANK; SLOT], &mut [BLANK; 16 * SLOT]),
+        1,
+        16,
+    );
+    brim(
+        &rt,
+        Calling::new(&mut [BLANK; 16 * SLOT], &mut [BLANK; SLOT]),
+        16,
+        1,
+    );
 }
 
 #[test]
 fn wrapped(rt: HostRuntime) {
-    assert!(rt; with(rt.alloc(), Trial::Wrap, 3 * SLOT, 3 * SLOT));
+    wrap(
+        &rt,
+        Calling::new(&mut [BLANK; 3 * SLOT], &mut [BLANK; 3 * SLOT]),
+    );
 }
 
 #[test]
 fn whole_and_refused(rt: HostRuntime) {
-    let heap = rt.alloc();
-    let good = with(heap, Trial::Whole, SLOT, 2 * SLOT);
-    assert!(rt; good & with(heap, Trial::Refusals, SLOT, 2 * SLOT));
+    both(
+        &rt,
+        Calling::new(&mut [BLANK; SLOT], &mut [BLANK; 2 * SLOT]),
+        |bench, lane, other| bench.whole(lane, other),
+    );
+    both(
+        &rt,
+        Calling::new(&mut [BLANK; SLOT], &mut [BLANK; 2 * SLOT]),
+        |bench, lane, _| bench.refusals(lane),
+    );
 }
 
 #[test]
 fn disturbed(rt: HostRuntime) {
-    let heap = rt.alloc();
-    let mut good = true;
-    for trial in [Trial::Codes, Trial::Keeping, Trial::Uses] {
-        good &= with(heap, trial, SLOT, 2 * SLOT);
-    }
-    assert!(rt; good);
+    follows(
+        &rt,
+        Calling::new(&mut [BLANK; SLOT], &mut [BLANK; 2 * SLOT]),
+        &CODES,
+        &CODES_ROWS,
+    );
+    follows(
+        &rt,
+        Calling::new(&mut [BLANK; SLOT], &mut [BLANK; 2 * SLOT]),
+        &KEEPING,
+        &KEEPING_ROWS,
+    );
+    uses(
+        &rt,
+        Calling::new(&mut [BLANK; SLOT], &mut [BLANK; 2 * SLOT]),
+    );
 }
 
-// One of the two memories is not whole slots.
+// One of the two memories is not whole slots; neither is written.
 #[test]
 fn bad_memories(rt: HostRuntime) {
-    let heap = rt.alloc();
-    let mut good = true;
     for bad in [0, 1, SLOT - 1, SLOT + 1, 17 * SLOT] {
-        good &= with(heap, Trial::Nothing, bad, SLOT);
-        good &= with(heap, Trial::Nothing, SLOT, bad);
+        for (up, down) in [(bad, SLOT), (SLOT, bad)] {
+            let mut up_memory = [BLANK; 17 * SLOT];
+            let mut down_memory = [BLANK; 17 * SLOT];
+            let carrier = Calling::new(&mut up_memory[..up], &mut down_memory[..down]);
+            both(&rt, carrier, |bench, lane, _| bench.nothing(lane));
+            let blank = is_blank(&up_memory) && is_blank(&down_memory);
+            assert!(rt; blank, "{up} {down}");
+        }
     }
-    assert!(rt; good);
 }
 
-// The number of the refusal of a memory of so many octets; 0, if it can be a lane.
-fn refusal(heap: Global, octets: usize) -> u8 {
-    match vec![in heap; BLANK; octets] {
-        Ok(memory) => match check_memory(&memory) {
-            Ok(()) => 0,
-            Err(refusal) => refusal.number(),
-        },
-        Err(_) => 255,
-    }
-}
+// A memory of so many octets, and the number of its refusal, if it cannot be a lane.
+const MEMORIES: [(usize, Option<u8>); 7] = [
+    (0, Some(5)),
+    (SLOT - 1, Some(5)),
+    (SLOT, None),
+    (SLOT + 1, Some(5)),
+    (16 * SLOT, None),
+    (16 * SLOT + 1, Some(5)),
+    (17 * SLOT, Some(5)),
+];
 
 #[test]
 fn memories(rt: HostRuntime) {
-    let heap = rt.alloc();
-    let mut good = true;
-    for (octets, number) in [
-        (0, 5),
-        (SLOT - 1, 5),
-        (SLOT, 0),
-        (SLOT + 1, 5),
-        (16 * SLOT, 0),
-        (16 * SLOT + 1, 5),
-        (17 * SLOT, 5),
-    ] {
-        good &= refusal(heap, octets) == number;
+    let all = [BLANK; 17 * SLOT];
+    for (octets, number) in MEMORIES {
+        let refusal = check_memory(&all[..octets]).err();
+        assert_eq!(rt; refusal.map(|refusal| refusal.number()), number, "{octets}");
     }
-    assert!(rt; good);
 }

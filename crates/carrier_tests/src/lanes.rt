@@ -1,98 +1,118 @@
 // What is tried on the lanes of a carrier.
-use crate::common::{ROOM, brings, is_empty, numbered, place, refuses_short, too_many};
+use crate::bench::Bench;
+use crate::common::{numbered, too_many};
+use crate::lanes::Turn::{Fetch, Place};
 use carrier::Carrier;
 use carrier::lane::Lane;
+use message::response::LONGEST;
+use std::process::Abort;
 
-// Are just so many messages taken, and the next refused with 10?
-fn fills<C: Carrier>(carrier: &mut C, lane: Lane, slots: u8) -> bool {
-    let mut good = true;
-    for k in 0..slots {
-        good &= place(carrier, lane, &numbered(lane, k)) == 0;
-    }
-    good & (place(carrier, lane, &numbered(lane, slots)) == 10)
+// A place or a fetch of the message with this number: turns are rows of constants, and a constant holds no closure.
+#[derive(Clone, Copy)]
+enum Turn {
+    Place(u8),
+    Fetch(u8),
 }
 
-// Do they come in their order, and then nothing?
-fn drains<C: Carrier>(carrier: &mut C, lane: Lane, slots: u8) -> bool {
-    let mut good = true;
-    for k in 0..slots {
-        good &= brings(carrier, lane, &numbered(lane, k));
+// Five places and five fetches: one to three messages wait in turn.
+const TURNS: [Turn; 10] = [
+    Place(0),
+    Place(1),
+    Fetch(0),
+    Place(2),
+    Place(3),
+    Fetch(1),
+    Fetch(2),
+    Place(4),
+    Fetch(3),
+    Fetch(4),
+];
+
+impl<R: Abort, C: Carrier> Bench<'_, R, C> {
+    // Just so many messages are taken, and the next is refused with 10.
+    fn fills(&mut self, lane: Lane, slots: u8) {
+        for k in 0..slots {
+            self.takes(lane, &numbered(lane, k));
+        }
+        self.refuses(lane, &numbered(lane, slots), 10);
     }
-    good & is_empty(carrier, lane)
+
+    // They come in their order, and then nothing.
+    fn drains(&mut self, lane: Lane, slots: u8) {
+        for k in 0..slots {
+            self.brings(lane, &numbered(lane, k));
+        }
+        self.is_empty(lane);
+    }
+
+    // A turn, its number counted from this one on.
+    fn turns(&mut self, lane: Lane, turn: Turn, from: u8) {
+        match turn {
+            Place(k) => self.takes(lane, &numbered(lane, from.wrapping_add(k))),
+            Fetch(k) => self.brings(lane, &numbered(lane, from.wrapping_add(k))),
+        }
+    }
+
+    // Messages of the fewest and of the most octets, whole, and nothing of them in the other lane.
+    pub(crate) fn whole(&mut self, lane: Lane, other: Lane) {
+        let all = too_many();
+        for length in [LONGEST, 1, LONGEST - 1, 2] {
+            let message = &all[..length];
+            self.takes(lane, message);
+            self.is_empty(other);
+            self.brings(lane, message);
+        }
+    }
+
+    // Refusals while a message is held, and what is held stands.
+    pub(crate) fn refusals(&mut self, lane: Lane) {
+        let held = numbered(lane, 1);
+        self.takes(lane, &held);
+        self.refuses(lane, &[], 9);
+        self.refuses(lane, &too_many(), 9);
+        self.refuses_short(lane);
+        self.brings(lane, &held);
+    }
+
+    // A carrier that takes and brings nothing.
+    pub(crate) fn nothing(&mut self, lane: Lane) {
+        self.refuses(lane, &numbered(lane, 1), 10);
+        self.refuses(lane, &[], 9);
+        self.refuses(lane, &too_many(), 9);
+        self.refuses_short(lane);
+        self.is_empty(lane);
+    }
 }
 
 // Both lanes, filled to the brim before either is emptied.
-pub(crate) fn brim<C: Carrier>(carrier: &mut C, up_slots: u8, down_slots: u8) -> bool {
-    let mut good = fills(carrier, Lane::Up, up_slots);
-    good &= fills(carrier, Lane::Down, down_slots);
-    good &= drains(carrier, Lane::Up, up_slots);
-    good & drains(carrier, Lane::Down, down_slots)
-}
-
-// Five places and five fetches, each of the message with this number: one to three messages wait in turn.
-const TURNS: [(bool, u8); 10] = [
-    (true, 0),
-    (true, 1),
-    (false, 0),
-    (true, 2),
-    (true, 3),
-    (false, 1),
-    (false, 2),
-    (true, 4),
-    (false, 3),
-    (false, 4),
-];
-
-fn turn<C: Carrier>(carrier: &mut C, lane: Lane, places: bool, k: u8) -> bool {
-    let message = numbered(lane, k);
-    if places {
-        place(carrier, lane, &message) == 0
-    } else {
-        brings(carrier, lane, &message)
-    }
+pub(crate) fn brim<C: Carrier + Drop>(rt: &impl Abort, carrier: C, up_slots: u8, down_slots: u8) {
+    let mut bench = Bench { rt, carrier };
+    bench.fills(Lane::Up, up_slots);
+    bench.fills(Lane::Down, down_slots);
+    bench.drains(Lane::Up, up_slots);
+    bench.drains(Lane::Down, down_slots);
 }
 
 // A hundred and twenty messages through each lane, in their order.
-pub(crate) fn wrap<C: Carrier>(carrier: &mut C) -> bool {
-    let mut good = true;
+pub(crate) fn wrap<C: Carrier + Drop>(rt: &impl Abort, carrier: C) {
+    let mut bench = Bench { rt, carrier };
     for round in 0..24u8 {
-        for (places, k) in TURNS {
-            let number = round.wrapping_mul(5).wrapping_add(k);
-            good &= turn(carrier, Lane::Up, places, number);
-            good &= turn(carrier, Lane::Down, places, number);
+        for turn in TURNS {
+            bench.turns(Lane::Up, turn, 5 * round);
+            bench.turns(Lane::Down, turn, 5 * round);
         }
     }
-    good
 }
 
-// Messages of the fewest and of the most octets, whole, and nothing of them in the other lane.
-pub(crate) fn whole<C: Carrier>(carrier: &mut C, lane: Lane, other: Lane) -> bool {
-    let all = too_many();
-    let mut good = true;
-    for length in [ROOM, 1, ROOM - 1, 2] {
-        let message = all.get(0..length).unwrap_or(&[]);
-        good &= place(carrier, lane, message) == 0;
-        good &= is_empty(carrier, other);
-        good &= brings(carrier, lane, message);
-    }
-    good
-}
-
-// Refusals while a message is held, and what is held stands.
-pub(crate) fn refusals<C: Carrier>(carrier: &mut C, lane: Lane) -> bool {
-    let held = numbered(lane, 1);
-    let mut good = place(carrier, lane, &held) == 0;
-    good &= place(carrier, lane, &[]) == 9;
-    good &= place(carrier, lane, &too_many()) == 9;
-    good &= refuses_short(carrier, lane);
-    good & brings(carrier, lane, &held)
-}
-
-// A carrier that takes and brings nothing.
-pub(crate) fn nothing<C: Carrier>(carrier: &mut C, lane: Lane) -> bool {
-    let mut good = place(carrier, lane, &numbered(lane, 1)) == 10;
-    good &= place(carrier, lane, &[]) == 9;
-    good &= place(carrier, lane, &too_many()) == 9;
-    good &= refuses_short(carrier, lane);
-    good & is_empty(carrier, lane)
+// A trial of both lanes of a carrier, each with the other.
+pub(crate) fn both<R: Abort, C: Carrier + Drop, T: Fn(&mut Bench<'_, R, C>, Lane, Lane)>(
+    rt: &R,
+    carrier: C,
+    trial: T,
+)
+    requires { T.IsAlwaysCallable trial }
+{
+    let mut bench = Bench { rt, carrier };
+    trial(&mut bench, Lane::Up, Lane::Down);
+    trial(&mut bench, Lane::Down, Lane::Up);
 }

@@ -9,9 +9,10 @@ use Rattle.consumer.specs.declared.event.CycleAnswer.{CycleAnswer}
 use Rattle.consumer.specs.declared.event.CycleRefusal.{CycleRefusal}
 use Rattle.consumer.specs.declared.event.CycleRefusal.TheVariants.{ShortBuffer}
 use Rattle.consumer.specs.declared.event.Turn.{Turn}
+use Rattle.consumer.specs.declared.inputs.Inputs.{Inputs}
 use Rattle.consumer.specs.declared.state.State.{State}
 use Rattle.consumer.specs.declared.state.TimedRequest.{TimedRequest}
-use Rattle.consumer.specs.Steps.{Inputs, turn, cycle, fetches, made, answer_of}
+use Rattle.consumer.specs.Steps.{turn, cycle, fetches, made, answer_of}
 use Rattle.message.specs.declared.parameters.Parameters.{Parameters}
 use Rattle.message.specs.Layout.{request_octets}
 use Rattle.message.specs.Response.{longest}

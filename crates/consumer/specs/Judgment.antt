@@ -50,9 +50,5 @@ with_number f last standing m (Ok k) =
     (cond (k.monitoring_number == number_of standing) (with_record k.flags (record_read f m)) (Err (Number (f.len + 17))))
 
 -- a message that is all zero is ignored
-abbrev pub judged : {R : Type 0} → Format R → Parameters → Option TimedRequest → TimedRequest → List ℕ → Result (Turn R) CycleFault
+unfoldable pub judged : {R : Type 0} → Format R → Parameters → Option TimedRequest → TimedRequest → List ℕ → Result (Turn R) CycleFault
 judged f p last standing m = cond (all_zero m) (Ok Ignored) (with_number f last standing m (checked f p m))
-
--- the same, shut
-unfoldable pub verdict : {R : Type 0} → Format R → Parameters → Option TimedRequest → TimedRequest → List ℕ → Result (Turn R) CycleFault
-verdict f p last standing m = judged f p last standing m

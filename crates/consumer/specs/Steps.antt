@@ -6,21 +6,16 @@ use Rattle.consumer.specs.declared.event.Event.{Event}
 use Rattle.consumer.specs.declared.event.Turn.{Turn}
 use Rattle.consumer.specs.declared.event.Turn.TheVariants.{Disabled, Started, Expired, Nothing, Ignored, Fault, Accepted}
 use Rattle.consumer.specs.declared.fault.CycleFault.{CycleFault}
+use Rattle.consumer.specs.declared.inputs.Inputs.{Inputs}
 use Rattle.consumer.specs.declared.setup.Setup.{Setup}
 use Rattle.consumer.specs.declared.state.Shown.{Shown}
 use Rattle.consumer.specs.declared.state.State.{State}
 use Rattle.consumer.specs.declared.state.TimedRequest.{TimedRequest}
-use Rattle.consumer.specs.Judgment.{verdict}
+use Rattle.consumer.specs.Judgment.{judged}
 use Rattle.message.specs.declared.flags.ResponseFlags.{ResponseFlags}
 use Rattle.message.specs.declared.parameters.Parameters.{Parameters}
 use Rattle.message.specs.Number.{next_number}
 use Rattle.record.specs.Kind.{Format}
-
--- what a cycle is given: a clock reading, enable and the acknowledgment input
-pub record Inputs : Type 0 where
-  pub reading : ℕ
-  pub enable : Bool
-  pub ack : Bool
 
 -- to blank: substitutes are shown and all flags are off
 abbrev pub blank : {R : Type 0} → Format R → Shown R
@@ -70,7 +65,7 @@ turn_of (Err fault) = Fault fault
 
 abbrev pub brought_turn : {R : Type 0} → Format R → Parameters → State R → TimedRequest → Brought → Turn R
 brought_turn f p c q None = Nothing
-brought_turn f p c q (Some m) = turn_of (verdict f p c.accepted q m)
+brought_turn f p c q (Some m) = turn_of (judged f p c.accepted q m)
 
 abbrev pub standing_turn : {R : Type 0} → Format R → Parameters → State R → ℕ → Option TimedRequest → Brought → Turn R
 standing_turn f p c reading None b = Started
@@ -256,6 +251,11 @@ asked p time error c = record {
   error = false;
 }
 
+-- a fault, repeated or not: a repeated one starts a hold
+abbrev pub failed : {R : Type 0} → Format R → Bool → ℕ → Bool → State R → State R
+failed f repeated time edge c =
+    faulted time (showing (after_fault f repeated (wish_ended edge c.shown)) (holding repeated (released edge c)))
+
 -- the state after a turn at this time, with this input, where the input is an edge or not
 abbrev pub after_turn : {R : Type 0} → Format R → Parameters → State R → ℕ → Bool → Bool → Turn R → State R
 after_turn f p c time ack edge Disabled = showing (blank f) (withdrawn (clocked time ack c))
@@ -264,9 +264,7 @@ after_turn f p c time ack edge Expired =
     asked p time true (showing (blank f) (holding p.operator_ack_necessary (released edge (clocked time ack c))))
 after_turn f p c time ack edge Nothing = showing (wish_ended edge c.shown) (released edge (clocked time ack c))
 after_turn f p c time ack edge Ignored = showing (wish_ended edge c.shown) (released edge (clocked time ack c))
-after_turn f p c time ack edge (Fault fault) =
-    faulted time (showing (after_fault f (is_repeated p c.fault_time time) (wish_ended edge c.shown))
-    (holding (is_repeated p c.fault_time time) (released edge (clocked time ack c))))
+after_turn f p c time ack edge (Fault fault) = failed f (is_repeated p c.fault_time time) time edge (clocked time ack c)
 after_turn f p c time ack edge (Accepted r flags) =
     asked p time c.error (showing (accepting f (c.hold && not edge) r flags) (answered (released edge (clocked time ack c))))
 

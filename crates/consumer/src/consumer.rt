@@ -6,6 +6,7 @@ ghost use Rattle.message.specs.Response.{longest};
 
 use crate::event::{CycleAnswer, CycleRefusal, Turn};
 use crate::fault::CycleFault;
+use crate::inputs::Inputs;
 use crate::setup::Setup;
 use crate::state::{Shown, State, TimedRequest};
 use carrier::Carrier;
@@ -46,13 +47,13 @@ impl<K: RecordKind> Consumer<K> {
     fn has_accepted(&self, number: u32) -> bool
         ensures { result ≡ accepted_before self.now.state.accepted number }
     {
-        match self.state.accepted {
-            Some(last) => number == last.request.monitoring_number,
-            None => false,
-        }
+        self.state
+            .accepted
+            .is_some_and(|last| number == last.request.monitoring_number)
     }
 
     // What a message is to the standing request.
+    #[tactic(auto, unfolding(crate::specs::Judgment::judged))]
     fn judge(&self, message: &[u8], standing: TimedRequest) -> Result<Turn<K>, CycleFault>
         ensures { result ≡ judged K.RecordKind.format self.now.setup.parameters self.now.state.accepted standing
             message.now }
@@ -66,7 +67,7 @@ impl<K: RecordKind> Consumer<K> {
         }
         if checked.monitoring_number != standing.request.monitoring_number {
             return Err(CycleFault::Number {
-                place: K::octet_length() + 17,
+                place: K::LENGTH + 17,
             });
         }
         let safety_data = read_record::<K>(message)?;
@@ -78,6 +79,7 @@ impl<K: RecordKind> Consumer<K> {
         ensures { result ≡ turn_of (judged K.RecordKind.format self.now.setup.parameters self.now.state.accepted standing
             message.now) }
     {
+        // a match: a constructor passed, `unwrap_or_else(Turn::Fault)`, gets no proof where its result alone names K
         match self.judge(message, standing) {
             Ok(turn) => turn,
             Err(fault) => Turn::Fault(fault),
@@ -85,20 +87,12 @@ impl<K: RecordKind> Consumer<K> {
     }
 
     // What a cycle meets; it fetches at most once.
-    fn meet<C: Carrier>(
-        &self,
-        carrier: &mut C,
-        reading: u64,
-        enable: bool,
-        ack: bool,
-        buffer: &mut [u8],
-    ) -> Turn<K>
+    fn meet<C: Carrier>(&self, carrier: &mut C, inputs: Inputs, buffer: &mut [u8]) -> Turn<K>
         requires { longest ≤ length buffer.old }
-        ensures { Met K.RecordKind.format self.now.setup.parameters self.now.state
-            (record { reading = reading; enable = enable; ack = ack }) (C.Carrier.lanes carrier.old) buffer.old
-            (C.Carrier.lanes carrier.new) buffer.new result }
+        ensures { Met K.RecordKind.format self.now.setup.parameters self.now.state inputs
+            (C.Carrier.lanes carrier.old) buffer.old (C.Carrier.lanes carrier.new) buffer.new result }
     {
-        if !enable {
+        if !inputs.enable {
             return Turn::Disabled;
         }
         let Some(standing) = self.state.standing else {
@@ -106,14 +100,13 @@ impl<K: RecordKind> Consumer<K> {
         };
         if self
             .state
-            .has_expired(&self.setup.parameters, reading, standing)
+            .has_expired(&self.setup.parameters, inputs.reading, standing)
         {
             return Turn::Expired;
         }
         match carrier.fetch(Lane::Down, buffer) {
             Ok(Some(size)) => self.hear(&buffer[0..size], standing),
-            Ok(None) => Turn::Nothing,
-            Err(_) => Turn::Nothing,
+            Ok(None) | Err(_) => Turn::Nothing,
         }
     }
 
@@ -121,33 +114,27 @@ impl<K: RecordKind> Consumer<K> {
     fn send<C: Carrier>(&self, carrier: &mut C, made: Option<TimedRequest>)
         ensures { SentSo (C.Carrier.lanes carrier.old) made (C.Carrier.lanes carrier.new) }
     {
-        let Some(asked) = made else {
-            return;
-        };
-        let _ = carrier.place(Lane::Up, &asked.request.octets());
+        if let Some(asked) = made {
+            let _ = carrier.place(Lane::Up, &asked.request.octets());
+        }
     }
 
     // One cycle: it asks, or takes what came, and answers what to show.
     pub fn cycle<C: Carrier>(
         &mut self,
         carrier: &mut C,
-        reading: u64,
-        enable: bool,
-        ack: bool,
+        inputs: Inputs,
         buffer: &mut [u8],
     ) -> Result<CycleAnswer<K>, CycleRefusal>
         ensures setup { self.new.setup ≡ self.old.setup }
-        ensures cycled { Cycled K.RecordKind.format self.old.setup.parameters self.old.state
-            (record { reading = reading; enable = enable; ack = ack }) (C.Carrier.lanes carrier.old) buffer.old
-            self.new.state (C.Carrier.lanes carrier.new) buffer.new result }
+        ensures cycled { Cycled K.RecordKind.format self.old.setup.parameters self.old.state inputs
+            (C.Carrier.lanes carrier.old) buffer.old self.new.state (C.Carrier.lanes carrier.new) buffer.new result }
     {
         if buffer.len() < LONGEST {
             return Err(CycleRefusal::ShortBuffer);
         }
-        let turn = self.meet(carrier, reading, enable, ack, buffer);
-        let made = self
-            .state
-            .settle(&self.setup.parameters, reading, ack, turn);
+        let turn = self.meet(carrier, inputs, buffer);
+        let made = self.state.settle(&self.setup.parameters, inputs, turn);
         self.send(carrier, made);
         Ok(CycleAnswer {
             shown: self.state.shown,

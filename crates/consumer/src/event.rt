@@ -25,6 +25,7 @@ pub enum Turn<K> {
 }
 
 impl<K: Copy> Turn<K> {
+    // A method and no `From`: it says by its name what is told of the turn.
     pub fn event(&self) -> Event
         ensures { result ≡ event_of self.now }
     {
@@ -41,7 +42,8 @@ impl<K: Copy> Turn<K> {
 }
 
 // The turn as a cycle tells it: an accepted record is told only by what is shown.
-#[derive(Clone, Copy)]
+// A type of its own: as a turn that carries nothing, each program would have to write Accepted(()).
+#[derive(Clone, Copy, Debug, PartialEq, Eq)]
 pub enum Event {
     Disabled,
     Started,
@@ -53,20 +55,21 @@ pub enum Event {
 }
 
 // What a cycle answers.
-#[derive(Clone, Copy)]
+#[derive(Clone, Copy, Debug, PartialEq, Eq)]
 pub struct CycleAnswer<K> {
     pub shown: Shown<K>,
     pub event: Event,
 }
 
 // Why a cycle was refused: it counts as no cycle.
-#[derive(Clone, Copy)]
+#[derive(Clone, Copy, Debug, PartialEq, Eq)]
 pub enum CycleRefusal {
     // the buffer has under 1,525 octets
     ShortBuffer,
 }
 
 impl CycleRefusal {
+    // The number that the rules of the link give it.
     pub fn number(&self) -> u8
         ensures { result ≡ refusal_number self.now }
     {

@@ -6,7 +6,7 @@ use message::fault::MessageFault;
 use record::fault::Layer;
 
 // What is wrong with a message that a cycle fetched.
-#[derive(Clone, Copy)]
+#[derive(Clone, Copy, Debug, PartialEq, Eq)]
 pub enum CycleFault {
     // the message's own fault, whole
     Message(MessageFault),
@@ -15,6 +15,7 @@ pub enum CycleFault {
 }
 
 impl CycleFault {
+    // The number that the rules of the link give it.
     pub fn number(&self) -> u8
         ensures { result ≡ cycle_number self.now }
     {

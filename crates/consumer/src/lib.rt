@@ -4,8 +4,10 @@
 pub mod consumer;
 pub mod event;
 pub mod fault;
+pub mod inputs;
 pub mod making;
 pub mod settling;
 pub mod setup;
+pub mod showing;
 pub mod start;
 pub mod state;

@@ -1,8 +1,9 @@
-ghost use Rattle.std.specs.Prelude.{◌≡◌};
-ghost use Rattle.consumer.specs.Steps.{time_of, ran_back, is_repeated, is_edge, has_expired, blank, after_fault, wish_ended, accepting, asking};
-ghost use Rattle.consumer.specs.Steps.{asked, after_turn, made};
+ghost use Rattle.std.specs.Prelude.{◌≡◌, true, not, ◌&&◌};
+ghost use Rattle.consumer.specs.Steps.{time_of, ran_back, is_repeated, is_edge, has_expired, blank, wish_ended, accepting};
+ghost use Rattle.consumer.specs.Steps.{showing, withdrawn, released, holding, answered, failed, asked, after_turn, made};
 
 use crate::event::Turn;
+use crate::inputs::Inputs;
 use crate::state::{Shown, State, TimedRequest};
 use message::flags::{RequestFlags, ResponseFlags};
 use message::number::next_number;
@@ -14,92 +15,22 @@ use record::kind::RecordKind;
 fn later(before: Option<u64>, reading: u64) -> u64
     ensures { result ≡ time_of before reading }
 {
-    match before {
-        Some(time) => time.max(reading),
-        None => reading,
-    }
+    before.map_or(reading, |time| time.max(reading))
 }
 
 // Is the reading below the time of the cycle before, if any?
 fn has_run_back(before: Option<u64>, reading: u64) -> bool
     ensures { result ≡ ran_back before reading }
 {
-    match before {
-        Some(time) => reading < time,
-        None => false,
-    }
+    before.is_some_and(|time| reading < time)
 }
 
 // Does a fault at this time come no more than the error interval after the one before, if any?
 fn is_repeated(parameters: &Parameters, before: Option<u64>, time: u64) -> bool
     ensures { result ≡ is_repeated parameters.now before time }
 {
-    match before {
-        Some(fault) => time.saturating_sub(fault) <= u64::from(parameters.error_interval) * 60_000,
-        None => false,
-    }
-}
-
-impl<K: RecordKind> Shown<K> {
-    // Substitutes, with all flags off.
-    pub fn blank() -> Shown<K>
-        ensures { result ≡ blank K.RecordKind.format }
-    {
-        Shown {
-            safety_data: K::substitute(),
-            fsv_activated: true,
-            operator_ack_requested: false,
-            operator_ack_provider: false,
-            test_mode_activated: false,
-        }
-    }
-
-    // What an accepted response shows, under a hold or not.
-    fn accepting(hold: bool, safety_data: K, flags: ResponseFlags) -> Shown<K>
-        ensures { result ≡ accepting K.RecordKind.format hold safety_data flags }
-    {
-        let substitutes = hold || flags.activate_fsv;
-        Shown {
-            safety_data: if substitutes {
-                K::substitute()
-            } else {
-                safety_data
-            },
-            fsv_activated: substitutes,
-            operator_ack_requested: hold && !flags.activate_fsv,
-            operator_ack_provider: flags.operator_ack_provider,
-            test_mode_activated: flags.test_mode_activated,
-        }
-    }
-
-    // What is shown after a fault, repeated or not.
-    fn after_fault(self, repeated: bool) -> Shown<K>
-        ensures { result ≡ after_fault K.RecordKind.format repeated self }
-    {
-        if !repeated {
-            return self;
-        }
-        Shown {
-            safety_data: K::substitute(),
-            fsv_activated: true,
-            operator_ack_requested: false,
-            operator_ack_provider: self.operator_ack_provider,
-            test_mode_activated: self.test_mode_activated,
-        }
-    }
-
-    // An edge ends the wish.
-    fn after_edge(self, edge: bool) -> Shown<K>
-        ensures { result ≡ wish_ended edge self }
-    {
-        Shown {
-            safety_data: self.safety_data,
-            fsv_activated: self.fsv_activated,
-            operator_ack_requested: self.operator_ack_requested && !edge,
-            operator_ack_provider: self.operator_ack_provider,
-            test_mode_activated: self.test_mode_activated,
-        }
-    }
+    let interval = u64::from(parameters.error_interval) * 60_000;
+    before.is_some_and(|fault| time.saturating_sub(fault) <= interval)
 }
 
 impl<K: RecordKind> State<K> {
@@ -119,9 +50,10 @@ impl<K: RecordKind> State<K> {
         ack && !self.input && self.shown.operator_ack_requested
     }
 
-    // The request with the next number, for what is now shown.
-    fn asking(&self, parameters: &Parameters, time: u64, error: bool) -> TimedRequest
-        ensures { result ≡ asking parameters.now self.now.next_number time error self.now.shown }
+    // Makes the request with the next number for what is now shown; it stands from now on.
+    fn ask(&mut self, parameters: &Parameters, time: u64, error: bool) -> Option<TimedRequest>
+        ensures state { self.new ≡ asked parameters.now time error self.old }
+        ensures made { result ≡ self.new.standing }
     {
         let flags = RequestFlags {
             communication_error: error,
@@ -133,79 +65,96 @@ impl<K: RecordKind> State<K> {
             monitoring_number: self.next_number,
             flags,
         };
-        TimedRequest { request, time }
-    }
-
-    // Makes the next request, which stands from now on.
-    fn ask(&mut self, parameters: &Parameters, time: u64, error: bool)
-        ensures { self.new ≡ asked parameters.now time error self.old }
-    {
-        let request = self.asking(parameters, time, error);
-        self.standing = Some(request);
+        self.standing = Some(TimedRequest { request, time });
         self.next_number = next_number(self.next_number);
         self.error = false;
+        self.standing
+    }
+
+    // Disabled: blank, with no request.
+    fn stop(&mut self)
+        ensures { self.new ≡ showing (blank K.RecordKind.format) (withdrawn self.old) }
+    {
+        self.shown = Shown::blank();
+        self.standing = None;
+    }
+
+    // Started: blank.
+    fn start(&mut self, edge: bool)
+        ensures { self.new ≡ showing (blank K.RecordKind.format) (released edge self.old) }
+    {
+        self.hold = self.hold && !edge;
+        self.shown = Shown::blank();
+    }
+
+    // Expired: blank, and a hold where an acknowledgment is necessary.
+    fn expire(&mut self, edge: bool, necessary: bool)
+        ensures { self.new ≡ showing (blank K.RecordKind.format) (holding necessary (released edge self.old)) }
+    {
+        self.hold = self.hold && !edge || necessary;
+        self.shown = Shown::blank();
+    }
+
+    // Nothing that counts: the request stands on.
+    fn wait(&mut self, edge: bool)
+        ensures { self.new ≡ showing (wish_ended edge self.old.shown) (released edge self.old) }
+    {
+        self.hold = self.hold && !edge;
+        self.shown = self.shown.after_edge(edge);
+    }
+
+    // A fault: the request stands on, and a repeated fault starts a hold.
+    fn fail(&mut self, repeated: bool, time: u64, edge: bool)
+        ensures { self.new ≡ failed K.RecordKind.format repeated time edge self.old }
+    {
+        self.hold = self.hold && !edge || repeated;
+        self.shown = self.shown.after_edge(edge).after_fault(repeated);
+        self.fault_time = Some(time);
+        self.error = true;
+    }
+
+    // The response to the standing request, which is the last accepted one from now on.
+    fn accept(&mut self, edge: bool, safety_data: K, flags: ResponseFlags)
+        ensures { self.new ≡ showing (accepting K.RecordKind.format (self.old.hold && not edge) safety_data flags)
+            (answered (released edge self.old)) }
+    {
+        self.hold = self.hold && !edge;
+        self.shown = Shown::accepting(self.hold, safety_data, flags);
+        self.accepted = self.standing;
     }
 
     // Takes the turn: the state after the cycle, and the request that it made, if any.
     pub fn settle(
         &mut self,
         parameters: &Parameters,
-        reading: u64,
-        ack: bool,
+        inputs: Inputs,
         turn: Turn<K>,
     ) -> Option<TimedRequest>
         ensures state { self.new ≡ after_turn K.RecordKind.format parameters.now self.old
-            (time_of self.old.time reading) ack (is_edge self.old ack) turn }
+            (time_of self.old.time inputs.reading) inputs.ack (is_edge self.old inputs.ack) turn }
         ensures made { result ≡ made turn self.new }
     {
-        let time = later(self.time, reading);
-        let edge = self.sees_edge(ack);
-        let hold = self.hold && !edge;
+        let time = later(self.time, inputs.reading);
+        let edge = self.sees_edge(inputs.ack);
         self.time = Some(time);
-        self.input = ack;
-        match (self.standing, turn) {
-            (_, Turn::Disabled) => {
-                self.shown = Shown::blank();
-                self.standing = None;
-                None
+        self.input = inputs.ack;
+        match turn {
+            Turn::Disabled => self.stop(),
+            Turn::Nothing | Turn::Ignored => self.wait(edge),
+            Turn::Fault(_) => self.fail(is_repeated(parameters, self.fault_time, time), time, edge),
+            Turn::Started => {
+                self.start(edge);
+                return self.ask(parameters, time, self.error);
             }
-            (_, Turn::Started) => {
-                self.hold = hold;
-                self.shown = Shown::blank();
-                self.ask(parameters, time, self.error);
-                self.standing
+            Turn::Expired => {
+                self.expire(edge, parameters.operator_ack_necessary);
+                return self.ask(parameters, time, true);
             }
-            (_, Turn::Expired) => {
-                self.hold = hold || parameters.operator_ack_necessary;
-                self.shown = Shown::blank();
-                self.ask(parameters, time, true);
-                self.standing
-            }
-            (_, Turn::Nothing) => {
-                self.hold = hold;
-                self.shown = self.shown.after_edge(edge);
-                None
-            }
-            (_, Turn::Ignored) => {
-                self.hold = hold;
-                self.shown = self.shown.after_edge(edge);
-                None
-            }
-            (_, Turn::Fault(_)) => {
-                let repeated = is_repeated(parameters, self.fault_time, time);
-                self.hold = hold || repeated;
-                self.shown = self.shown.after_edge(edge).after_fault(repeated);
-                self.fault_time = Some(time);
-                self.error = true;
-                None
-            }
-            (standing, Turn::Accepted(safety_data, flags)) => {
-                self.hold = hold;
-                self.shown = Shown::accepting(hold, safety_data, flags);
-                self.accepted = standing;
-                self.ask(parameters, time, self.error);
-                self.standing
+            Turn::Accepted(safety_data, flags) => {
+                self.accept(edge, safety_data, flags);
+                return self.ask(parameters, time, self.error);
             }
         }
+        None
     }
 }

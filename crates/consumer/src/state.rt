@@ -7,8 +7,9 @@ pub struct TimedRequest {
     pub time: u64,
 }
 
-// What a cycle shows. By the mark `fsv_activated` the record is the substitute, else process values.
-#[derive(Clone, Copy)]
+// What a cycle shows. By the mark `fsv_activated` the record is the substitute, else process values. The mark stands beside the
+// record, as the standard has it, since there is a record to show under either.
+#[derive(Clone, Copy, Debug, PartialEq, Eq)]
 pub struct Shown<K> {
     pub safety_data: K,
     // the mark: fail-safe substitute values are shown

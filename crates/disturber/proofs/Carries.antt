@@ -1,13 +1,15 @@
 -- A down fetch keeps the laws of every carrier, whichever disturbance it meets.
-use Rattle.std.proofs.Common.{ℕ, ◌≤◌, ltb, List, ◌++◌, length, Some, None, refl, inl, inr, ⊎_elim, length-set}
+use Rattle.std.proofs.Common.{◌≡◌, ℕ, ◌≤◌, ltb, List, ◌++◌, length, take, drop, Some, None, sym, refl, ap, ◌∙◌, inl, inr, ⊎_elim, append_assoc, arith, length-set, length-take}
 use mathlib.Core.List.Memᴰ
 use borrow.Author.Tests.{both_ways}
 use Rattle.std.proofs.lemmas.Bool.{cond_both, le-ltb}
+use Rattle.std.proofs.lemmas.List.{take-append-drop, drop-append-le}
+use Rattle.carrier.specs.declared.lane.Lane.{Lane}
 use Rattle.carrier.specs.declared.lane.Lane.TheVariants.{Down}
 use Rattle.carrier.proofs.Cells.{held_lengthy}
 use Rattle.carrier.proofs.Steady.{Lengthy}
 use Rattle.carrier.specs.Cells.{listed}
-use Rattle.carrier.specs.Fetch.{Answer, Brought, Came, Fetched, Got}
+use Rattle.carrier.specs.Fetch.{Answer, Brought, brought_in, Came, Fetched, Got}
 use Rattle.carrier.specs.Lanes.{Lanes, NoGain}
 use Rattle.message.specs.Response.{longest}
 use Rattle.message.specs.Sound.{sound}
@@ -36,6 +38,21 @@ module _ (k : Brought) (a : Lanes) where
       (λ u. absurd (both_ways (sound m) u e)) c.2)
       (λ _. stays k a.down)
   keeps_held None c = stays k a.down
+
+came_lengthy : (l : Lane) (a : Lanes) (b : Brought) → Came l a b → Lengthy b
+came_lengthy l a (Some m) c = (c.0, c.1)
+came_lengthy l a None c = tt
+
+-- what is brought to the start of a buffer stands there before the rest
+in_front : (b : Brought) (s t : List ℕ) → longest ≤ length s → Lengthy b → t ≡ brought_in b (take longest s)
+    → t ++ drop longest s ≡ brought_in b s
+in_front (Some m) s t long h e =
+    let xs = take longest s in
+    let ys = drop longest s in
+    let room : length m ≤ length xs = simp length-take (omega (arith, h.1)) in
+    ap (λ x. x ++ ys) e ∙ append_assoc m (drop (length m) xs) ys
+    ∙ ap (λ x. m ++ x) (sym (drop-append-le (length m) xs ys room) ∙ ap (drop (length m)) (take-append-drop longest s))
+in_front None s t long h e = ap (λ x. x ++ drop longest s) e ∙ take-append-drop longest s
 
 came_kept : (k : Brought) (a : Lanes) → Lengthy k → Came Down (disturbed k a) k
 came_kept (Some m) a h = (h.0, h.1, inl (Memᴰ.head refl))
@@ -69,3 +86,18 @@ module _ {C : Type 0} (lanes : C → Lanes) (before after : Disturber C) (left :
     refused = λ short. absurd (both_ways (ltb (length s) longest) (le-ltb (length s) longest long) short);
     fetched = λ _. (handed d (kept_of before) p.brought, record { got = got_by d p; answers = p.answers; leaves = p.leaves });
   }
+
+  -- what is done to the first 1,525 octets is done to the whole buffer
+  pub widens : (whole : List ℕ) (d : Disturbance) → longest ≤ length whole → s ≡ take longest whole
+      → Disturbed lanes d left before after s t r → Disturbed lanes d left before after whole (t ++ drop longest whole) r
+  widens whole d long first p =
+      let h = handed d (kept_of before) p.brought in
+      record {
+        brought = p.brought;
+        asked = p.asked;
+        answers = p.answers;
+        leaves = in_front h whole t long (came_lengthy Down (lanes_over lanes before) h (got_by d p).came)
+            (p.leaves ∙ ap (brought_in h) first);
+        keeps = p.keeps;
+        moves = p.moves;
+      }

@@ -1,4 +1,3 @@
-mod Scripts
 mod Layers
 mod Carries
 mod Disturbs

@@ -1,5 +1,5 @@
 -- What the codes of a script stand for, and which codes a script takes.
-use Rattle.std.specs.Prelude.{◌≡◌, ℕ, Bool, true, cond, ◌&&◌, List, [], ◌∷◌, map, length, take, drop, Ok, Err, Result, ◌==◌, nat_le, nat_lt}
+use Rattle.std.specs.Prelude.{◌≡◌, ℕ, Bool, true, cond, ◌&&◌, List, [], ◌∷◌, map, length, Ok, Err, Result, ◌==◌, nat_le, nat_lt}
 use Rattle.disturber.specs.declared.disturbance.Disturbance.{Disturbance}
 use Rattle.disturber.specs.declared.disturbance.Disturbance.TheVariants.{Pass, Lose, Repeat, Flip}
 use Rattle.disturber.specs.declared.filling.ScriptRefusal.{ScriptRefusal}
@@ -10,9 +10,12 @@ use Rattle.disturber.specs.declared.script.Script.{Script}
 abbrev pub disturbance_of : ℕ → Disturbance
 disturbance_of code = cond (code == 1) Lose (cond (code == 2) Repeat (cond (code == 3) Flip Pass))
 
+abbrev pub read_code : ℕ → Result Disturbance ScriptRefusal
+read_code code = cond (nat_le code 3) (Ok (disturbance_of code)) (Err Code)
+
 -- the disturbances of the down fetches to come
 abbrev pub to_come : Script → List Disturbance
-to_come s = map disturbance_of (drop s.next (take s.count s.codes))
+to_come s = s.to_come
 
 -- the disturbance of the next down fetch; after the last code it passes
 abbrev pub next_of : List Disturbance → Disturbance

@@ -1,10 +1,13 @@
 ghost use Rattle.std.specs.Prelude.{◌≡◌};
-ghost use Rattle.disturber.specs.Scripts.{disturbance_of};
+ghost use Rattle.disturber.specs.Scripts.{read_code};
+
+use crate::filling::ScriptRefusal;
 
 // What happens to a down fetch.
-#[derive(Clone, Copy)]
+#[derive(Clone, Copy, Debug, Default, PartialEq, Eq)]
 pub enum Disturbance {
     // what comes is handed out
+    #[default]
     Pass,
     // what comes is lost
     Lose,
@@ -14,16 +17,19 @@ pub enum Disturbance {
     Flip,
 }
 
-impl Disturbance {
-    // What a code of a script stands for.
-    pub fn of(code: u8) -> Disturbance
-        ensures { result ≡ disturbance_of code }
-    {
+// What a code of a script stands for.
+impl TryFrom<u8> for Disturbance {
+    type Error = ScriptRefusal;
+
+    ghost try_from_gives = { λ code answer. answer ≡ read_code code };
+
+    fn try_from(code: u8) -> Result<Disturbance, ScriptRefusal> {
         match code {
-            1 => Disturbance::Lose,
-            2 => Disturbance::Repeat,
-            3 => Disturbance::Flip,
-            _ => Disturbance::Pass,
+            0 => Ok(Disturbance::Pass),
+            1 => Ok(Disturbance::Lose),
+            2 => Ok(Disturbance::Repeat),
+            3 => Ok(Disturbance::Flip),
+            _ => Err(ScriptRefusal::Code),
         }
     }
 }

@@ -3,14 +3,12 @@ ghost use Rattle.carrier.specs.Cells.{held};
 ghost use Rattle.disturber.specs.Scripts.{to_come, next_of, Filled, script_number};
 
 use crate::disturbance::Disturbance;
-use crate::script::Script;
+use crate::script::{MOST_CODES, Script};
+use arrayvec::ArrayVec;
 use carrier::cell::Cell;
 
-// The codes are 0 to 3.
-const LAST_CODE: u8 = 3;
-
 // Why a script was not taken.
-#[derive(Clone, Copy)]
+#[derive(Clone, Copy, Debug, PartialEq, Eq)]
 pub enum ScriptRefusal {
     // it has over 64 codes
     Length,
@@ -19,6 +17,7 @@ pub enum ScriptRefusal {
 }
 
 impl ScriptRefusal {
+    // The number that the rules of the link give it.
     pub fn number(&self) -> u8
         ensures { result ≡ script_number self.now }
     {
@@ -36,9 +35,7 @@ impl Script {
         ensures kept { held result.kept ≡ None }
     {
         Script {
-            codes: [0; 64],
-            count: 0,
-            next: 0,
+            to_come: ArrayVec::new().into_iter(),
             kept: Cell::empty(),
         }
     }
@@ -47,18 +44,14 @@ impl Script {
     pub fn fill(&mut self, codes: &[u8]) -> Result<(), ScriptRefusal>
         ensures { Filled codes.now self.old self.new result }
     {
-        let count = codes.len();
-        if count > 64 {
+        if codes.len() > MOST_CODES {
             return Err(ScriptRefusal::Length);
         }
+        let mut to_come = ArrayVec::new();
         for code in codes {
-            if *code > LAST_CODE {
-                return Err(ScriptRefusal::Code);
-            }
+            to_come.push(Disturbance::try_from(*code)?);
         }
-        self.codes[0..count].copy_from_slice(codes);
-        self.count = count;
-        self.next = 0;
+        self.to_come = to_come.into_iter();
         Ok(())
     }
 
@@ -68,11 +61,6 @@ impl Script {
         ensures moves { to_come self.new ≡ drop 1 (to_come self.old) }
         ensures kept { self.new.kept ≡ self.old.kept }
     {
-        if self.next >= self.count {
-            return Disturbance::Pass;
-        }
-        let code = self.codes[self.next];
-        self.next += 1;
-        Disturbance::of(code)
+        self.to_come.next().unwrap_or(Disturbance::Pass)
     }
 }

@@ -1,10 +1,9 @@
 // A layer over any carrier that disturbs its down lane by a script: it passes, loses, repeats or damages what comes.
 #![tactic(auto)]
 
-ghost use Rattle.std.specs.Prelude.{◌≡◌, ◌≤◌, length};
+ghost use Rattle.std.specs.Prelude.{◌≡◌};
 ghost use Rattle.carrier.specs.Fetch.{Fetched};
 ghost use Rattle.carrier.specs.Place.{Placed};
-ghost use Rattle.message.specs.Response.{longest};
 ghost use Rattle.disturber.specs.declared.disturbance.Disturbance.TheVariants.{Pass, Lose, Repeat, Flip};
 ghost use Rattle.disturber.specs.Disturbing.{lanes_over, Acted, FetchedThrough};
 ghost use Rattle.disturber.specs.DisturbingLemmas.{slots_over};
@@ -38,24 +37,20 @@ impl<C> Disturber<C> {
 
 impl<C: Carrier> Disturber<C> {
     // Hands out what the carrier below brings, and keeps it if it is sound.
-    fn pass(&mut self, buffer: &mut [u8]) -> Option<usize>
-        requires { longest ≤ length buffer.old }
+    fn pass(&mut self, buffer: &mut [u8; LONGEST]) -> Option<usize>
         ensures { Acted C.Carrier.lanes Pass self.old self.new buffer.old buffer.new result }
     {
-        match self.below.fetch(Lane::Down, buffer) {
-            Ok(Some(n)) => {
-                if is_sound(&buffer[0..n]) {
-                    self.script.kept.keep(&buffer[0..n]);
-                }
-                Some(n)
-            }
-            _ => None,
+        let Ok(Some(n)) = self.below.fetch(Lane::Down, buffer) else {
+            return None;
+        };
+        if is_sound(&buffer[0..n]) {
+            self.script.kept.keep(&buffer[0..n]);
         }
+        Some(n)
     }
 
     // Hands out nothing of what the carrier below brings.
-    fn lose(&mut self, buffer: &mut [u8]) -> Option<usize>
-        requires { longest ≤ length buffer.old }
+    fn lose(&mut self, buffer: &mut [u8; LONGEST]) -> Option<usize>
         ensures { Acted C.Carrier.lanes Lose self.old self.new buffer.old buffer.new result }
     {
         let mut scratch = [0; LONGEST];
@@ -64,35 +59,30 @@ impl<C: Carrier> Disturber<C> {
     }
 
     // Hands out the kept message.
-    fn repeat(&mut self, buffer: &mut [u8]) -> Option<usize>
-        requires { longest ≤ length buffer.old }
+    fn repeat(&mut self, buffer: &mut [u8; LONGEST]) -> Option<usize>
         ensures { Acted C.Carrier.lanes Repeat self.old self.new buffer.old buffer.new result }
     {
         self.script.kept.show(buffer)
     }
 
     // Hands out what the carrier below brings with its last bit flipped, but nothing that is sound.
-    fn flip(&mut self, buffer: &mut [u8]) -> Option<usize>
-        requires { longest ≤ length buffer.old }
+    fn flip(&mut self, buffer: &mut [u8; LONGEST]) -> Option<usize>
         ensures { Acted C.Carrier.lanes Flip self.old self.new buffer.old buffer.new result }
     {
         let mut scratch = [0; LONGEST];
-        match self.below.fetch(Lane::Down, &mut scratch) {
-            Ok(Some(n)) => {
-                scratch[n - 1] ^= 1;
-                if is_sound(&scratch[0..n]) {
-                    return None;
-                }
-                buffer[0..n].copy_from_slice(&scratch[0..n]);
-                Some(n)
-            }
-            _ => None,
+        let Ok(Some(n)) = self.below.fetch(Lane::Down, &mut scratch) else {
+            return None;
+        };
+        scratch[n - 1] ^= 1;
+        if is_sound(&scratch[0..n]) {
+            return None;
         }
+        buffer[0..n].copy_from_slice(&scratch[0..n]);
+        Some(n)
     }
 
     // Does to a down fetch what the script has for it.
-    fn disturb(&mut self, disturbance: Disturbance, buffer: &mut [u8]) -> Option<usize>
-        requires { longest ≤ length buffer.old }
+    fn disturb(&mut self, disturbance: Disturbance, buffer: &mut [u8; LONGEST]) -> Option<usize>
         ensures { Acted C.Carrier.lanes disturbance self.old self.new buffer.old buffer.new result }
     {
         match disturbance {
@@ -127,10 +117,10 @@ impl<C: Carrier> Carrier for Disturber<C> {
         if let Lane::Up = lane {
             return self.below.fetch(Lane::Up, buffer);
         }
-        if buffer.len() < LONGEST {
+        let Some(front) = buffer.first_chunk_mut::<LONGEST>() else {
             return Err(FetchRefusal::ShortBuffer);
-        }
+        };
         let disturbance = self.script.advance();
-        Ok(self.disturb(disturbance, buffer))
+        Ok(self.disturb(disturbance, front))
     }
 }

@@ -1,13 +1,13 @@
-ghost use Rattle.std.specs.Prelude.{◌≤◌};
-
+use crate::disturbance::Disturbance;
+use arrayvec::IntoIter;
 use carrier::cell::Cell;
 
-// A place for the codes of a disturber, and for the message that it keeps.
+// No script has more codes.
+pub(crate) const MOST_CODES: usize = 64;
+
+// The disturbances of the down fetches to come, and the message that a disturber keeps.
 #[derive(Drop)]
 pub struct Script {
-    pub(crate) codes: [u8; 64],
-    pub(crate) count: usize,
-    pub(crate) next: usize,
+    pub(crate) to_come: IntoIter<Disturbance, MOST_CODES>,
     pub(crate) kept: Cell,
-    ghost fits: { count ≤ 64 },
 }

@@ -1,7 +1,7 @@
 ghost use Rattle.std.specs.Prelude.{◌≡◌};
 ghost use Rattle.draw.specs.Draws.{opened, asked_after, reached, taken};
 
-use consumer::event::Event;
+use consumer::event::{CycleAnswer, Event};
 use consumer::state::Shown;
 use record::meter::Meter;
 
@@ -49,28 +49,24 @@ impl Bay {
         ensures { self.new ≡ asked_after time event self.old }
     {
         match event {
-            Event::Disabled => {}
-            Event::Started => self.asked_at = time,
-            Event::Expired => self.asked_at = time,
-            Event::Nothing => {}
-            Event::Ignored => {}
-            Event::Fault(_) => {}
+            Event::Started | Event::Expired => self.asked_at = time,
             Event::Accepted => {
                 self.age = time.saturating_sub(self.asked_at);
                 self.asked_at = time;
             }
+            Event::Disabled | Event::Nothing | Event::Ignored | Event::Fault(_) => {}
         }
     }
 
     // Takes what a cycle at this time answered, and shuts the nozzle where a shown process count has reached the litre.
-    pub fn take(&mut self, time: u32, shown: Shown<Meter>, event: Event)
-        ensures { self.new ≡ taken time shown event self.old }
+    pub fn take(&mut self, time: u32, answer: &CycleAnswer<Meter>)
+        ensures { self.new ≡ taken time answer.now.shown answer.now.event self.old }
     {
-        self.follow(time, event);
-        if self.shut.is_none() && is_full(shown) {
+        self.follow(time, answer.event);
+        if self.shut.is_none() && is_full(answer.shown) {
             self.shut = Some(Shut {
                 time,
-                count: shown.safety_data.pulses,
+                count: answer.shown.safety_data.pulses,
                 age: self.age,
             });
         }

@@ -1,8 +1,9 @@
 use crate::bay::{Bay, Shut};
+use crate::lines::{BayLine, SkidLine};
 use crate::skid::{pulses_at, reading_at};
 use anyhow::anyhow;
 use carrier::Carrier;
-use consumer::event::{CycleAnswer, Event};
+use consumer::inputs::Inputs;
 use consumer::start::StartNumber;
 use disturber::Disturber;
 use disturber::script::Script;
@@ -11,7 +12,6 @@ use message::flags::ResponseFlags;
 use message::making::Settings;
 use message::parameters::{BaseId, Parameters};
 use message::response::LONGEST;
-use provider::answer::ServeAnswer;
 use record::meter::Meter;
 use std::io;
 
@@ -28,7 +28,7 @@ const PASSED: usize = 20;
 
 const HELD_BACK: usize = 5;
 
-fn parameters() -> anyhow::Result<Parameters> {
+fn parameters() -> Parameters {
     let settings = Settings {
         consumer_id: 7,
         provider_id: 1,
@@ -38,71 +38,20 @@ fn parameters() -> anyhow::Result<Parameters> {
         error_interval: 6,
         operator_ack_necessary: true,
     };
-    match Parameters::new(settings) {
-        Ok(parameters) => Ok(parameters),
-        Err(_) => Err(anyhow!("the parameters are refused")),
-    }
+    Parameters::new(settings).unwrap()
 }
 
-fn start() -> anyhow::Result<StartNumber> {
-    match StartNumber::new(256) {
-        Ok(start) => Ok(start),
-        Err(_) => Err(anyhow!("the start number is refused")),
-    }
+fn start() -> StartNumber {
+    StartNumber::new(256).unwrap()
 }
 
 // The script of the network.
-fn network() -> anyhow::Result<Script> {
+fn network() -> Script {
     let mut codes = [0; PASSED + HELD_BACK];
-    for code in codes[PASSED..].iter_mut() {
-        *code = 2;
-    }
+    codes[PASSED..].fill(2);
     let mut script = Script::empty();
-    match script.fill(&codes) {
-        Ok(()) => Ok(script),
-        Err(_) => Err(anyhow!("the script is refused")),
-    }
-}
-
-fn print_cycle(rt: &impl Print, time: u32, answer: &CycleAnswer<Meter>) -> io::Result<()> {
-    print!(rt; "{time:>5} ms  bay: ")?;
-    match answer.event {
-        Event::Disabled => print!(rt; "disabled")?,
-        Event::Started => print!(rt; "asks for the first time")?,
-        Event::Expired => print!(rt; "request expired, asks again")?,
-        Event::Nothing => print!(rt; "no response")?,
-        Event::Ignored => print!(rt; "old response ignored")?,
-        Event::Fault(fault) => {
-            let number = fault.number();
-            let place = fault.place();
-            print!(rt; "fault {number} at octet {place}")?;
-        }
-        Event::Accepted => print!(rt; "response accepted")?,
-    }
-    let pulses = answer.shown.safety_data.pulses;
-    if answer.shown.fsv_activated {
-        print!(rt; ", shows substitutes")?;
-    } else {
-        print!(rt; ", shows {pulses} pulses")?;
-    }
-    if answer.shown.operator_ack_requested {
-        print!(rt; ", wishes for an acknowledgment")?;
-    }
-    println!(rt)
-}
-
-fn print_serve(rt: &impl Print, time: u32, answer: ServeAnswer, pulses: u32) -> io::Result<()> {
-    match answer {
-        ServeAnswer::Idle => println!(rt; "{time:>5} ms  skid: no request"),
-        ServeAnswer::New(request) => {
-            let number = request.monitoring_number;
-            println!(rt; "{time:>5} ms  skid: answers request {number} with {pulses} pulses")
-        }
-        ServeAnswer::Again(request) => {
-            let number = request.monitoring_number;
-            println!(rt; "{time:>5} ms  skid: answers request {number} again, as before")
-        }
-    }
+    script.fill(&codes).unwrap();
+    script
 }
 
 fn print_end(rt: &impl Print, shut: Shut) -> io::Result<()> {
@@ -118,35 +67,51 @@ fn print_end(rt: &impl Print, shut: Shut) -> io::Result<()> {
     println!(rt; "the meter had passed {passed} ml by then, {over} ml over the litre")
 }
 
+// The inputs of an enabled cycle at this time.
+fn enabled(time: u32, ack: bool) -> Inputs {
+    Inputs {
+        reading: u64::from(time),
+        enable: true,
+        ack,
+    }
+}
+
 // Draws a litre over this carrier and tells each action.
 pub fn draw_litre<C: Carrier + Drop>(rt: &impl Print, carrier: C) -> anyhow::Result<()> {
     let mut link: Link<Meter, Disturber<C>> = Link::new(
-        parameters()?,
-        start()?,
-        Disturber::new(carrier, network()?),
+        parameters(),
+        start(),
+        Disturber::new(carrier, network()),
     );
     let mut bay = Bay::new();
     let mut buffer = [0; LONGEST];
-    let flags = ResponseFlags::of(0);
+    let flags = ResponseFlags::default();
     let mut ack = false;
     for step in 0..STEPS {
         let time = step * STEP;
-        let Ok(answer) = link.cycle(u64::from(time), true, ack, &mut buffer) else {
-            return Err(anyhow!("the cycle is refused"));
-        };
-        print_cycle(rt, time, &answer)?;
-        bay.take(time, answer.shown, answer.event);
+        let answer = link
+            .cycle(enabled(time, ack), &mut buffer)
+            .map_err(|_| anyhow!("the cycle is refused"))?;
+        println!(rt; "{}", BayLine { time, answer })?;
+        bay.take(time, &answer);
         if let Some(shut) = bay.shut() {
-            print_end(rt, shut)?;
-            return Ok(());
+            return Ok(print_end(rt, shut)?);
         }
         // the operator acknowledges as soon as the bay wishes for it
         ack = answer.shown.operator_ack_requested;
         let reading = reading_at(time);
-        let Ok(served) = link.serve(reading, flags, &mut buffer) else {
-            return Err(anyhow!("the serve is refused"));
-        };
-        print_serve(rt, time, served, reading.pulses)?;
+        let answer = link
+            .serve(reading, flags, &mut buffer)
+            .map_err(|_| anyhow!("the serve is refused"))?;
+        let pulses = reading.pulses;
+        println!(rt;
+            "{}",
+            SkidLine {
+                time,
+                answer,
+                pulses
+            }
+        )?;
     }
     Err(anyhow!("the nozzle was not shut"))
 }

@@ -2,20 +2,18 @@
 #![tactic(auto)]
 
 mod bay;
+mod lines;
 mod litre;
 mod skid;
 
 use calling::Calling;
-use calling::lane::SlotLane;
 use calling::memory::SLOT;
 use litre::draw_litre;
 
 fn run(rt: &HostRuntime) -> anyhow::Result<()> {
     let mut up_memory = vec![in rt.alloc(); 0u8; 4 * SLOT]?;
     let mut down_memory = vec![in rt.alloc(); 0u8; 4 * SLOT]?;
-    let mut up = SlotLane::new(up_memory.as_mut_slice());
-    let mut down = SlotLane::new(down_memory.as_mut_slice());
-    let carrier = Calling::new(&mut up, &mut down);
+    let carrier = Calling::new(up_memory.as_mut_slice(), down_memory.as_mut_slice());
     draw_litre(rt, carrier)
 }
 

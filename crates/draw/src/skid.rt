@@ -14,9 +14,8 @@ pub fn pulses_at(time: u32) -> u64
 pub fn reading_at(time: u32) -> Meter
     ensures { result ≡ reading time }
 {
-    let pulses = pulses_at(time).min(u64::from(u32::MAX)) as u32;
     Meter {
-        pulses,
+        pulses: u32::try_from(pulses_at(time)).unwrap_or(u32::MAX),
         centidegrees: 1510,
         valid: true,
     }

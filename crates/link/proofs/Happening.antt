@@ -11,7 +11,7 @@ use Rattle.link.specs.Examples.{two_rounds, TwoRounds, two_faults, wished, HoldA
 use Rattle.link.specs.Laws.{Rounds}
 use Rattle.link.specs.Laws.Rounds.{start, round}
 use Rattle.link.specs.Runs.{Ran, History, lanes_at, provider_at}
-use Rattle.link.specs.Words.{Lanes, Response, first_of, reply, sendable, response_octets, verdict, turn, u32_at, with_signature}
+use Rattle.link.specs.Words.{Lanes, Response, first_of, reply, sendable, response_octets, judged, turn, u32_at, with_signature}
 use Rattle.link.proofs.Steadily.{cycle_happens, serve_happens, place_happens}
 
 -- what is sent, if anything, has a lawful length
@@ -46,7 +46,7 @@ made : Ran meter_format example_setup publishing_lanes [] × Ran meter_format ex
 made = ((refl, refl, record { up = lit≤ tt; down = lit≤ tt }), (refl, refl, record { up = lit≤ tt; down = lit≤ tt }))
 
 pub publishing_rounds : TwoRounds publishing_lanes
-unfolding verdict turn u32_at with_signature bit_step octet_step
+unfolding judged turn u32_at with_signature bit_step octet_step
 publishing_rounds =
     let p = publishing_lanes in
     let h1 = cycling p 10 false [] in
@@ -64,7 +64,7 @@ publishing_rounds =
     }
 
 pub calling_rounds : TwoRounds calling_lanes
-unfolding verdict turn u32_at with_signature bit_step octet_step
+unfolding judged turn u32_at with_signature bit_step octet_step
 calling_rounds =
     let p = calling_lanes in
     let h1 = cycling p 10 false [] in
@@ -82,7 +82,7 @@ calling_rounds =
     }
 
 pub hold_and_edge : HoldAndEdge calling_lanes
-unfolding verdict turn u32_at with_signature bit_step octet_step
+unfolding judged turn u32_at with_signature bit_step octet_step
 hold_and_edge =
     let p = calling_lanes in
     let h1 = cycling p 10 false [] in

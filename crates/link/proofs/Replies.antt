@@ -9,7 +9,7 @@ use Rattle.link.specs.Runs.{History, ServeHappens, place_answer}
 use Rattle.link.specs.Words.{Brought, Format, Lanes, Lawful, Memory, Message, Parameters, Placed, Request, Response, ResponseFlags}
 use Rattle.link.specs.Words.{ServeAnswer, ServeRefusal, Setup, TimedRequest}
 use Rattle.link.specs.Words.{accepted_before, is_again, longest, new_response, number_of, reply, request_octets, response_octets}
-use Rattle.link.specs.Words.{response_of, response_to, sendable, verdict}
+use Rattle.link.specs.Words.{response_of, response_to, sendable, judged}
 use Rattle.link.proofs.Carries.{placed_fixed}
 use Rattle.link.proofs.Fields.{not_zero, request_consumer, request_number}
 use Rattle.link.proofs.Origins.{Built}
@@ -38,7 +38,7 @@ module _ {R : Type 0} {f : Format R} (laws : Lawful f) (p : Parameters) (q : Tim
 
   -- and is accepted, unless it bears the last accepted number
   pub response_accepted : 256 ≤ number_of q → (last : Option TimedRequest) → accepted_before last (number_of q) ≡ false
-      → verdict f p last q message ≡ Ok (Accepted r flags)
+      → judged f p last q message ≡ Ok (Accepted r flags)
   response_accepted large last new =
       let fits = p.consumer_fits in
       let number = number_is f laws p response is_sound fits small message refl in

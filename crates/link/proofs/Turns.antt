@@ -6,7 +6,7 @@ use Rattle.consumer.specs.declared.fault.CycleFault.{CycleFault}
 use Rattle.std.proofs.lemmas.Bool.{ltb-false, or_parts}
 use Rattle.link.specs.Runs.{FetchedIf}
 use Rattle.link.specs.Words.{Brought, Format, Got, Inputs, Lanes, Message, Parameters, ResponseFlags, State, TimedRequest, Turn}
-use Rattle.link.specs.Words.{brought_turn, fetches, has_expired, ran_back, standing_turn, time_of, turn, turn_of, verdict}
+use Rattle.link.specs.Words.{brought_turn, fetches, has_expired, ran_back, standing_turn, time_of, turn, turn_of, judged}
 
 -- an enabled cycle that finds its request standing and not expired
 pub record Waits {R : Type 0} (p : Parameters) (c : State R) (i : Inputs) (q : TimedRequest) : Type 0 where
@@ -21,7 +21,7 @@ pub record Answers {R : Type 0} (f : Format R) (p : Parameters) (c : State R) (i
   pub waits : Waits p c i request
   pub message : Message
   pub brought : b ≡ Some message
-  pub accepted : verdict f p c.accepted request message ≡ Ok (Accepted r flags)
+  pub accepted : judged f p c.accepted request message ≡ Ok (Accepted r flags)
 
 -- what a cycle met that takes this turn
 abbrev pub Met : {R : Type 0} → Format R → Parameters → State R → Inputs → Brought → Turn R → Type 0
@@ -34,20 +34,20 @@ Met f p c i b (Fault fault) = (q : TimedRequest) × Waits p c i q
 Met f p c i b (Accepted r flags) = Answers f p c i b r flags
 
 module _ {R : Type 0} (f : Format R) (p : Parameters) (c : State R) (i : Inputs) (b : Brought) where
-  met_verdict : (q : TimedRequest) (m : Message) → Waits p c i q → b ≡ Some m → (v : Result (Turn R) CycleFault)
-      → verdict f p c.accepted q m ≡ v → Met f p c i b (turn_of v)
-  met_verdict q m w e (Ok Disabled) j = tt
-  met_verdict q m w e (Ok Started) j = tt
-  met_verdict q m w e (Ok Expired) j = tt
-  met_verdict q m w e (Ok Nothing) j = (q, w)
-  met_verdict q m w e (Ok Ignored) j = (q, w)
-  met_verdict q m w e (Ok (Fault fault)) j = (q, w)
-  met_verdict q m w e (Ok (Accepted r flags)) j = record { request = q; waits = w; message = m; brought = e; accepted = j }
-  met_verdict q m w e (Err fault) j = (q, w)
+  met_judged : (q : TimedRequest) (m : Message) → Waits p c i q → b ≡ Some m → (v : Result (Turn R) CycleFault)
+      → judged f p c.accepted q m ≡ v → Met f p c i b (turn_of v)
+  met_judged q m w e (Ok Disabled) j = tt
+  met_judged q m w e (Ok Started) j = tt
+  met_judged q m w e (Ok Expired) j = tt
+  met_judged q m w e (Ok Nothing) j = (q, w)
+  met_judged q m w e (Ok Ignored) j = (q, w)
+  met_judged q m w e (Ok (Fault fault)) j = (q, w)
+  met_judged q m w e (Ok (Accepted r flags)) j = record { request = q; waits = w; message = m; brought = e; accepted = j }
+  met_judged q m w e (Err fault) j = (q, w)
 
   met_brought : (q : TimedRequest) → Waits p c i q → (x : Brought) → b ≡ x → Met f p c i b (brought_turn f p c q x)
   met_brought q w None e = (q, w)
-  met_brought q w (Some m) e = met_verdict q m w e (verdict f p c.accepted q m) refl
+  met_brought q w (Some m) e = met_judged q m w e (judged f p c.accepted q m) refl
 
   met_standing : i.enable ≡ true → (q : TimedRequest) → c.standing ≡ Some q → (z : Bool) → has_expired p c i.reading q ≡ z
       → Met f p c i b (cond z Expired (brought_turn f p c q b))

@@ -6,13 +6,14 @@ pub use Rattle.carrier.specs.Lanes.{Message, Lanes, lane_of, slots_of, other, wi
 pub use Rattle.carrier.specs.Place.{Placed, Put, sendable, full, steady_place, steady_answer}
 pub use Rattle.consumer.specs.declared.event.CycleAnswer.{CycleAnswer}
 pub use Rattle.consumer.specs.declared.event.Turn.{Turn}
+pub use Rattle.consumer.specs.declared.inputs.Inputs.{Inputs}
 pub use Rattle.consumer.specs.declared.setup.Setup.{Setup}
 pub use Rattle.consumer.specs.declared.state.Shown.{Shown}
 pub use Rattle.consumer.specs.declared.state.State.{State}
 pub use Rattle.consumer.specs.declared.state.TimedRequest.{TimedRequest}
-pub use Rattle.consumer.specs.Judgment.{number_of, accepted_before, with_record, with_number, judged}
-unfoldable pub use Rattle.consumer.specs.Judgment.{verdict}
-pub use Rattle.consumer.specs.Steps.{Inputs, blank, fresh, ran_back, time_of, is_edge, has_expired, turn_of, brought_turn, standing_turn, fetches, interval, is_repeated, wish_ended, after_fault, accepting, asking, after_turn, cycle, makes, made_if, made, event_of, answer_of}
+pub use Rattle.consumer.specs.Judgment.{number_of, accepted_before, with_record, with_number}
+unfoldable pub use Rattle.consumer.specs.Judgment.{judged}
+pub use Rattle.consumer.specs.Steps.{blank, fresh, ran_back, time_of, is_edge, has_expired, turn_of, brought_turn, standing_turn, fetches, interval, is_repeated, wish_ended, after_fault, accepting, asking, after_turn, cycle, makes, made_if, made, event_of, answer_of}
 unfoldable pub use Rattle.consumer.specs.Steps.{turn}
 pub use Rattle.message.specs.declared.flags.ResponseFlags.{ResponseFlags}
 pub use Rattle.message.specs.declared.identity.Identities.{Identities}

@@ -1,7 +1,7 @@
 ghost use Rattle.std.specs.Prelude.{◌≡◌, []};
 ghost use Rattle.carrier.specs.Place.{Placed};
 ghost use Rattle.consumer.specs.Cycled.{Cycled};
-ghost use Rattle.link.specs.Links.{Reached, Extends, CycleRuns, ServeRuns};
+ghost use Rattle.link.specs.Links.{ends, Reached, Extends, CycleRuns, ServeRuns};
 ghost use Rattle.link.specs.Runs.{Strange};
 ghost use Rattle.link.specs.Runs.Call.{placed};
 ghost use Rattle.provider.specs.Served.{Served};
@@ -10,6 +10,7 @@ use carrier::Carrier;
 use carrier::lane::{Lane, PlaceRefusal};
 use consumer::consumer::Consumer;
 use consumer::event::{CycleAnswer, CycleRefusal};
+use consumer::inputs::Inputs;
 use consumer::setup::Setup;
 use consumer::start::StartNumber;
 use message::flags::ResponseFlags;
@@ -32,7 +33,7 @@ impl<K: RecordKind, C: Carrier> Link<K, C> {
         ensures setup { result.consumer.setup ≡ record { parameters = parameters; start = start } }
         ensures carrier { result.carrier ≡ carrier }
         ensures reached { (C.Carrier.lanes carrier).up ≡ [] → (C.Carrier.lanes carrier).down ≡ []
-            → Reached K.RecordKind.format (C.Carrier.lanes carrier) [] result.consumer result.provider (C.Carrier.lanes result.carrier) }
+            → Reached K.RecordKind.format (C.Carrier.lanes carrier) [] (ends C.Carrier.lanes result) }
     {
         Link {
             consumer: Consumer::new(Setup { parameters, start }),
@@ -44,21 +45,16 @@ impl<K: RecordKind, C: Carrier> Link<K, C> {
     // One cycle of the consumer.
     pub fn cycle(
         &mut self,
-        reading: u64,
-        enable: bool,
-        ack: bool,
+        inputs: Inputs,
         buffer: &mut [u8],
     ) -> Result<CycleAnswer<K>, CycleRefusal>
         ensures provider { self.new.provider ≡ self.old.provider }
-        ensures cycled { Cycled K.RecordKind.format self.old.consumer.setup.parameters self.old.consumer.state
-            (record { reading = reading; enable = enable; ack = ack }) (C.Carrier.lanes self.old.carrier) buffer.old
-            self.new.consumer.state (C.Carrier.lanes self.new.carrier) buffer.new result }
-        ensures runs { CycleRuns K.RecordKind.format (record { reading = reading; enable = enable; ack = ack }) self.old.consumer
-            self.old.provider (C.Carrier.lanes self.old.carrier) self.new.consumer
-            self.new.provider (C.Carrier.lanes self.new.carrier) result }
+        ensures cycled { Cycled K.RecordKind.format self.old.consumer.setup.parameters self.old.consumer.state inputs
+            (C.Carrier.lanes self.old.carrier) buffer.old self.new.consumer.state (C.Carrier.lanes self.new.carrier) buffer.new
+            result }
+        ensures runs { CycleRuns K.RecordKind.format inputs (ends C.Carrier.lanes self.old) (ends C.Carrier.lanes self.new) result }
     {
-        self.consumer
-            .cycle(&mut self.carrier, reading, enable, ack, buffer)
+        self.consumer.cycle(&mut self.carrier, inputs, buffer)
     }
 
     // One serve of the provider.
@@ -72,9 +68,8 @@ impl<K: RecordKind, C: Carrier> Link<K, C> {
         ensures served { Served K.RecordKind.format self.old.provider.parameters self.old.provider.memory given flags
             (C.Carrier.lanes self.old.carrier) buffer.old self.new.provider.memory
             (C.Carrier.lanes self.new.carrier) buffer.new result }
-        ensures runs { ServeRuns K.RecordKind.format given flags self.old.consumer self.old.provider
-            (C.Carrier.lanes self.old.carrier) self.new.consumer self.new.provider
-            (C.Carrier.lanes self.new.carrier) result }
+        ensures runs { ServeRuns K.RecordKind.format given flags (ends C.Carrier.lanes self.old)
+            (ends C.Carrier.lanes self.new) result }
     {
         self.provider.serve(&mut self.carrier, given, flags, buffer)
     }
@@ -85,9 +80,8 @@ impl<K: RecordKind, C: Carrier> Link<K, C> {
         ensures provider { self.new.provider ≡ self.old.provider }
         ensures placed { Placed lane message.now (C.Carrier.lanes self.old.carrier) (C.Carrier.lanes self.new.carrier) result }
         ensures runs { Strange K.RecordKind.format self.old.consumer.setup.parameters lane message.now
-            → Extends K.RecordKind.format (placed lane message.now result) self.old.consumer
-            self.old.provider (C.Carrier.lanes self.old.carrier) self.new.consumer
-            self.new.provider (C.Carrier.lanes self.new.carrier) }
+            → Extends K.RecordKind.format (placed lane message.now result) (ends C.Carrier.lanes self.old)
+            (ends C.Carrier.lanes self.new) }
     {
         self.carrier.place(lane, message)
     }

@@ -1,55 +1,58 @@
 // When a request expires, and what follows.
-use crate::steps::{ACCEPTED, BLANK, EXPIRED, NEW, NOTHING, STARTED, Step, WISH, calls, publishes};
+use crate::bench::{calls, publishes};
+use crate::steps::Heard::*;
+use crate::steps::Sight::*;
+use crate::steps::Step::{self, *};
+use crate::steps::Told::*;
 
 // A request that waits for just the timeout has not expired, and a response is accepted then. Its record is shown if no
 // acknowledgment is necessary.
 #[test]
 fn timeout_and_hold(rt: HostRuntime) {
-    let mut good = true;
-    for (necessary, shown) in [(true, WISH), (false, (0, 11))] {
-        good &= publishes(
+    for (necessary, shown) in [(true, Wish), (false, Values(11))] {
+        publishes(
+            &rt,
             necessary,
             &[
-                Step::On(1_000, STARTED, BLANK),
-                Step::On(401_000, NOTHING, BLANK),
-                Step::On(401_001, EXPIRED, BLANK),
-                Step::Serve(11, 0, (NEW, 257, 5)),
-                Step::On(801_001, ACCEPTED, shown),
+                On(1_000, Started, Blank),
+                On(401_000, Nothing, Blank),
+                On(401_001, Expired, Blank),
+                Serve(11, 0, New(257, 5)),
+                On(801_001, Accepted, shown),
             ],
         );
     }
-    assert!(rt; good);
 }
 
 // Nothing is fetched at expiry: the late response comes in the cycle after.
 const LATE: [Step; 5] = [
-    Step::On(0, STARTED, BLANK),
-    Step::Serve(11, 0, (NEW, 256, 4)),
-    Step::On(400_001, EXPIRED, BLANK),
-    Step::On(400_002, 24, BLANK),
-    Step::On(400_003, NOTHING, BLANK),
+    On(0, Started, Blank),
+    Serve(11, 0, New(256, 4)),
+    On(400_001, Expired, Blank),
+    On(400_002, Fault(24), Blank),
+    On(400_003, Nothing, Blank),
 ];
 
 #[test]
 fn late_response(rt: HostRuntime) {
-    assert!(rt; calls(&LATE));
+    calls(&rt, &LATE);
 }
 
 // The time of a cycle with enable off counts. Requests 256 and 257 both bear it, as the larger of two times.
 const RAN_BACK: [Step; 10] = [
-    Step::Off(1_000),
-    Step::On(500, STARTED, BLANK),
-    Step::Serve(11, 0, (NEW, 256, 4)),
-    Step::On(999, EXPIRED, BLANK),
-    Step::On(1_000, 24, BLANK),
-    Step::On(401_000, 24, BLANK),
-    Step::On(401_001, EXPIRED, BLANK),
-    Step::Serve(12, 0, (NEW, 258, 5)),
-    Step::On(401_002, ACCEPTED, (0, 12)),
-    Step::On(401_001, EXPIRED, BLANK),
+    Off(1_000),
+    On(500, Started, Blank),
+    Serve(11, 0, New(256, 4)),
+    On(999, Expired, Blank),
+    On(1_000, Fault(24), Blank),
+    On(401_000, Fault(24), Blank),
+    On(401_001, Expired, Blank),
+    Serve(12, 0, New(258, 5)),
+    On(401_002, Accepted, Values(12)),
+    On(401_001, Expired, Blank),
 ];
 
 #[test]
 fn readings_that_run_back(rt: HostRuntime) {
-    assert!(rt; publishes(false, &RAN_BACK));
+    publishes(&rt, false, &RAN_BACK);
 }

@@ -1,149 +1,155 @@
 // Repeated faults, holds, acknowledgment, and cycles with enable off.
-use crate::steps::{
-    ACCEPTED, BLANK, EXPIRED, IGNORED, NEW, NOTHING, STARTED, Step, WISH, calls, held, publishes,
-};
+use crate::bench::{calls, held, publishes};
+use crate::steps::Heard::*;
+use crate::steps::Sight::*;
+use crate::steps::Step::{self, *};
+use crate::steps::Told::*;
 
 // A second fault no more than 360,000 milliseconds after the first shows substitutes; a third is counted from the second.
 #[test]
 fn interval(rt: HostRuntime) {
-    let mut good = true;
-    for (second, shown) in [(20, BLANK), (360_020, BLANK), (360_021, (0, 11))] {
-        good &= publishes(
+    for (second, shown) in [(20, Blank), (360_020, Blank), (360_021, Values(11))] {
+        publishes(
+            &rt,
             false,
             &[
-                Step::On(0, STARTED, BLANK),
-                Step::Serve(11, 0, (NEW, 256, 4)),
-                Step::On(10, ACCEPTED, (0, 11)),
-                Step::Down(999, 99),
-                Step::On(20, 24, (0, 11)),
-                Step::On(second, 24, shown),
-                Step::On(360_030, 24, BLANK),
+                On(0, Started, Blank),
+                Serve(11, 0, New(256, 4)),
+                On(10, Accepted, Values(11)),
+                Down(999, None),
+                On(20, Fault(24), Values(11)),
+                On(second, Fault(24), shown),
+                On(360_030, Fault(24), Blank),
             ],
         );
     }
-    assert!(rt; good);
 }
 
 // A repeated fault ends the wish, and it comes again with the next response. With the edge the record is shown.
 const EDGE: [Step; 9] = [
-    Step::Down(999, 99),
-    Step::On(50, 24, BLANK),
-    Step::Serve(13, 0, (NEW, 258, 7)),
-    Step::On(60, ACCEPTED, WISH),
-    Step::On(70, IGNORED, WISH),
-    Step::Serve(14, 0, (NEW, 259, 7)),
-    Step::Ack(80, ACCEPTED, (0, 14)),
-    Step::Serve(15, 0, (NEW, 260, 0)),
-    Step::On(90, ACCEPTED, (0, 15)),
+    Down(999, None),
+    On(50, Fault(24), Blank),
+    Serve(13, 0, New(258, 7)),
+    On(60, Accepted, Wish),
+    On(70, Ignored, Wish),
+    Serve(14, 0, New(259, 7)),
+    Ack(80, Accepted, Values(14)),
+    Serve(15, 0, New(260, 0)),
+    On(90, Accepted, Values(15)),
 ];
 
 // Without a response the edge ends hold and wish, and the next record is shown. The input of a refused cycle does not count.
 const EDGE_IGNORED: [Step; 5] = [
-    Step::Short(50),
-    Step::Ack(60, IGNORED, BLANK),
-    Step::On(70, IGNORED, BLANK),
-    Step::Serve(13, 0, (NEW, 258, 7)),
-    Step::On(80, ACCEPTED, (0, 13)),
+    Short(50),
+    Ack(60, Ignored, Blank),
+    On(70, Ignored, Blank),
+    Serve(13, 0, New(258, 7)),
+    On(80, Accepted, Values(13)),
 ];
 
 // The same where nothing comes, under the hold of a reading that ran back.
 const EDGE_NOTHING: [Step; 9] = [
-    Step::On(10, STARTED, BLANK),
-    Step::Serve(11, 0, (NEW, 256, 4)),
-    Step::On(5, EXPIRED, BLANK),
-    Step::On(20, 24, BLANK),
-    Step::Serve(12, 0, (NEW, 257, 5)),
-    Step::On(30, ACCEPTED, WISH),
-    Step::Ack(40, NOTHING, BLANK),
-    Step::Serve(13, 0, (NEW, 258, 7)),
-    Step::On(50, ACCEPTED, (0, 13)),
+    On(10, Started, Blank),
+    Serve(11, 0, New(256, 4)),
+    On(5, Expired, Blank),
+    On(20, Fault(24), Blank),
+    Serve(12, 0, New(257, 5)),
+    On(30, Accepted, Wish),
+    Ack(40, Nothing, Blank),
+    Serve(13, 0, New(258, 7)),
+    On(50, Accepted, Values(13)),
 ];
 
 #[test]
 fn edges(rt: HostRuntime) {
-    assert!(rt; held(&EDGE) && held(&EDGE_IGNORED) && calls(&EDGE_NOTHING));
+    held(&rt, &EDGE);
+    held(&rt, &EDGE_IGNORED);
+    calls(&rt, &EDGE_NOTHING);
 }
 
 // The edge comes with a fault that is no repeated one: it ends the hold of an expiry all the same.
 const EDGE_FAULT: [Step; 8] = [
-    Step::On(0, STARTED, BLANK),
-    Step::On(400_001, EXPIRED, BLANK),
-    Step::Serve(11, 0, (NEW, 257, 5)),
-    Step::On(400_010, ACCEPTED, WISH),
-    Step::Down(999, 99),
-    Step::Ack(400_020, 24, BLANK),
-    Step::Serve(12, 0, (NEW, 258, 6)),
-    Step::On(400_030, ACCEPTED, (0, 12)),
+    On(0, Started, Blank),
+    On(400_001, Expired, Blank),
+    Serve(11, 0, New(257, 5)),
+    On(400_010, Accepted, Wish),
+    Down(999, None),
+    Ack(400_020, Fault(24), Blank),
+    Serve(12, 0, New(258, 6)),
+    On(400_030, Accepted, Values(12)),
 ];
 
 // The edge comes with an expiry after which no acknowledgment is necessary, so there is no hold.
 const EDGE_EXPIRED: [Step; 3] = [
-    Step::Ack(400_041, EXPIRED, BLANK),
-    Step::Serve(13, 0, (NEW, 259, 5)),
-    Step::On(400_050, ACCEPTED, (0, 13)),
+    Ack(400_041, Expired, Blank),
+    Serve(13, 0, New(259, 5)),
+    On(400_050, Accepted, Values(13)),
 ];
 
 #[test]
 fn edges_at_failures(rt: HostRuntime) {
-    assert!(rt; publishes(true, &EDGE_FAULT) && held(&EDGE_EXPIRED));
+    publishes(&rt, true, &EDGE_FAULT);
+    held(&rt, &EDGE_EXPIRED);
 }
 
 // A repeated fault in the cycle of the edge holds again; then the input stays on, which is no edge.
 const HELD_ON: [Step; 10] = [
-    Step::Down(999, 99),
-    Step::Ack(50, 24, BLANK),
-    Step::Serve(13, 0, (NEW, 258, 7)),
-    Step::Ack(60, ACCEPTED, WISH),
-    Step::Serve(14, 0, (NEW, 259, 7)),
-    Step::Ack(70, ACCEPTED, WISH),
-    Step::Serve(15, 0, (NEW, 260, 6)),
-    Step::On(80, ACCEPTED, WISH),
-    Step::Serve(16, 0, (NEW, 261, 6)),
-    Step::Ack(90, ACCEPTED, (0, 16)),
+    Down(999, None),
+    Ack(50, Fault(24), Blank),
+    Serve(13, 0, New(258, 7)),
+    Ack(60, Accepted, Wish),
+    Serve(14, 0, New(259, 7)),
+    Ack(70, Accepted, Wish),
+    Serve(15, 0, New(260, 6)),
+    On(80, Accepted, Wish),
+    Serve(16, 0, New(261, 6)),
+    Ack(90, Accepted, Values(16)),
 ];
 
 // While the provider asks for substitutes there is no wish, and the input without it is no edge.
 const ASKED: [Step; 6] = [
-    Step::Serve(13, 2, (NEW, 258, 7)),
-    Step::On(50, ACCEPTED, BLANK),
-    Step::Serve(14, 5, (NEW, 259, 4)),
-    Step::Ack(60, ACCEPTED, (15, 0)),
-    Step::Serve(15, 0, (NEW, 260, 6)),
-    Step::On(70, ACCEPTED, WISH),
+    Serve(13, 2, New(258, 7)),
+    On(50, Accepted, Blank),
+    Serve(14, 5, New(259, 4)),
+    Ack(60, Accepted, WishAndFlags),
+    Serve(15, 0, New(260, 6)),
+    On(70, Accepted, Wish),
 ];
 
 #[test]
 fn no_edges(rt: HostRuntime) {
-    assert!(rt; held(&HELD_ON) && held(&ASKED));
+    held(&rt, &HELD_ON);
+    held(&rt, &ASKED);
 }
 
 // The wish is gone after a cycle with enable off, so the input is no edge; the hold is not gone.
 const OFF_HELD: [Step; 6] = [
-    Step::Off(50),
-    Step::Ack(60, STARTED, BLANK),
-    Step::Serve(13, 0, (NEW, 259, 4)),
-    Step::On(70, ACCEPTED, WISH),
-    Step::Serve(14, 0, (NEW, 260, 6)),
-    Step::Ack(80, ACCEPTED, (0, 14)),
+    Off(50),
+    Ack(60, Started, Blank),
+    Serve(13, 0, New(259, 4)),
+    On(70, Accepted, Wish),
+    Serve(14, 0, New(260, 6)),
+    Ack(80, Accepted, Values(14)),
 ];
 
 // Request 257 is withdrawn and its response foreign. Request 258 tells of the fault at 20, which makes that at 50 a repeated one.
 const OFF_FAULT: [Step; 12] = [
-    Step::On(0, STARTED, BLANK),
-    Step::Serve(11, 0, (NEW, 256, 4)),
-    Step::On(10, ACCEPTED, (0, 11)),
-    Step::Down(999, 99),
-    Step::On(20, 24, (0, 11)),
-    Step::Serve(12, 0, (NEW, 257, 0)),
-    Step::Off(30),
-    Step::Off(35),
-    Step::On(40, STARTED, BLANK),
-    Step::On(50, 24, BLANK),
-    Step::Serve(13, 0, (NEW, 258, 5)),
-    Step::On(60, ACCEPTED, WISH),
+    On(0, Started, Blank),
+    Serve(11, 0, New(256, 4)),
+    On(10, Accepted, Values(11)),
+    Down(999, None),
+    On(20, Fault(24), Values(11)),
+    Serve(12, 0, New(257, 0)),
+    Off(30),
+    Off(35),
+    On(40, Started, Blank),
+    On(50, Fault(24), Blank),
+    Serve(13, 0, New(258, 5)),
+    On(60, Accepted, Wish),
 ];
 
 #[test]
 fn enable_off(rt: HostRuntime) {
-    assert!(rt; held(&OFF_HELD) && publishes(false, &OFF_FAULT));
+    held(&rt, &OFF_HELD);
+    publishes(&rt, false, &OFF_FAULT);
 }

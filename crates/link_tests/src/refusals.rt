@@ -1,134 +1,131 @@
 // What is refused, and what stands then.
-use crate::common::{ROOM, cycled, is_filled, link_over};
-use crate::steps::{
-    ACCEPTED, AGAIN, BLANK, EXPIRED, IDLE, IGNORED, NEW, NOTHING, STARTED, Step, WISH, calls,
-    publishes, telling,
-};
+use crate::bench::{calls, publishes};
+use crate::common::{BLANK, cycled, is_left, link_over, served};
+use crate::steps::Heard::*;
+use crate::steps::Sight::*;
+use crate::steps::Step::{self, *};
+use crate::steps::Told::{self, *};
 use calling::Calling;
-use calling::lane::SlotLane;
 use calling::memory::SLOT;
 use carrier::Carrier;
 use carrier::publishing::Publishing;
 use consumer::start::StartNumber;
 use link::link::Link;
-use message::flags::ResponseFlags;
+use message::response::LONGEST;
 use record::draw::Draw;
+use std::process::Abort;
 
 #[test]
 fn start_numbers(rt: HostRuntime) {
-    let mut good = StartNumber::new(256).is_ok();
+    assert!(rt; StartNumber::new(256).is_ok());
     for low in [0, 255] {
-        good &= matches!(StartNumber::new(low), Err(refusal) if refusal.number() == 4);
+        let refusal = StartNumber::new(low).err();
+        assert_eq!(rt; refusal.map(|refusal| refusal.number()), Some(4), "{low}");
     }
-    assert!(rt; good);
 }
 
 // Requests and responses stay on their lanes, and a reading that was refused is no time.
 const SHORT: [Step; 9] = [
-    Step::Short(5_000),
-    Step::On(1_000, STARTED, BLANK),
-    Step::Short(2_000),
-    Step::Serve(11, 0, (NEW, 256, 4)),
-    Step::Short(900_000),
-    Step::On(1_010, ACCEPTED, (0, 11)),
-    Step::Short(1_020),
-    Step::Serve(12, 0, (NEW, 257, 0)),
-    Step::On(1_015, ACCEPTED, (0, 12)),
+    Short(5_000),
+    On(1_000, Started, Blank),
+    Short(2_000),
+    Serve(11, 0, New(256, 4)),
+    Short(900_000),
+    On(1_010, Accepted, Values(11)),
+    Short(1_020),
+    Serve(12, 0, New(257, 0)),
+    On(1_015, Accepted, Values(12)),
 ];
 
 #[test]
 fn short_buffers(rt: HostRuntime) {
-    assert!(rt; publishes(true, &SHORT) && calls(&SHORT));
+    publishes(&rt, true, &SHORT);
+    calls(&rt, &SHORT);
 }
 
 // The first serve finds the lane full: its response is built, and remembered for when the request comes again.
 const FULL_DOWN: [Step; 8] = [
-    Step::Zeros(32),
-    Step::On(0, STARTED, BLANK),
-    Step::Serve(11, 4, (10, 0, 0)),
-    Step::Serve(12, 0, (IDLE, 0, 0)),
-    Step::On(1, IGNORED, BLANK),
-    Step::Up(9),
-    Step::Serve(13, 0, (AGAIN, 256, 5)),
-    Step::On(2, ACCEPTED, (8, 11)),
+    Zeros(32),
+    On(0, Started, Blank),
+    Serve(11, 4, Refused(10)),
+    Serve(12, 0, Idle),
+    On(1, Ignored, Blank),
+    Up(9),
+    Serve(13, 0, Again(256, 5)),
+    On(2, Accepted, ValuesInTest(11)),
 ];
 
 // Request 257 finds the lane full and is lost; it stands all the same, and expires.
 const FULL_UP: [Step; 9] = [
-    Step::On(0, STARTED, BLANK),
-    Step::On(400_001, EXPIRED, BLANK),
-    Step::Serve(11, 0, (NEW, 256, 4)),
-    Step::Serve(12, 0, (IDLE, 0, 0)),
-    Step::On(400_002, 24, BLANK),
-    Step::On(800_001, NOTHING, BLANK),
-    Step::On(800_002, EXPIRED, BLANK),
-    Step::Serve(12, 0, (NEW, 258, 5)),
-    Step::On(800_003, ACCEPTED, WISH),
+    On(0, Started, Blank),
+    On(400_001, Expired, Blank),
+    Serve(11, 0, New(256, 4)),
+    Serve(12, 0, Idle),
+    On(400_002, Fault(24), Blank),
+    On(800_001, Nothing, Blank),
+    On(800_002, Expired, Blank),
+    Serve(12, 0, New(258, 5)),
+    On(800_003, Accepted, Wish),
 ];
 
 #[test]
 fn full_lanes(rt: HostRuntime) {
-    assert!(rt; calls(&FULL_DOWN) && calls(&FULL_UP));
+    calls(&rt, &FULL_DOWN);
+    calls(&rt, &FULL_UP);
 }
 
 // Eight octets are no request: they were fetched, and the response to request 256 is still on its way.
 const FETCHED: [Step; 6] = [
-    Step::On(0, STARTED, BLANK),
-    Step::Serve(11, 0, (NEW, 256, 4)),
-    Step::Up(8),
-    Step::Serve(12, 0, (11, 0, 0)),
-    Step::Serve(13, 0, (IDLE, 0, 0)),
-    Step::On(1, ACCEPTED, (0, 11)),
+    On(0, Started, Blank),
+    Serve(11, 0, New(256, 4)),
+    Up(8),
+    Serve(12, 0, Refused(11)),
+    Serve(13, 0, Idle),
+    On(1, Accepted, Values(11)),
 ];
 
 // The remembered answer is kept.
 const KEPT: [Step; 6] = [
-    Step::Up(9),
-    Step::Serve(11, 0, (NEW, 256, 5)),
-    Step::Up(8),
-    Step::Serve(12, 0, (11, 0, 0)),
-    Step::Up(9),
-    Step::Serve(13, 0, (AGAIN, 256, 5)),
+    Up(9),
+    Serve(11, 0, New(256, 5)),
+    Up(8),
+    Serve(12, 0, Refused(11)),
+    Up(9),
+    Serve(13, 0, Again(256, 5)),
 ];
 
 #[test]
 fn not_requests(rt: HostRuntime) {
-    assert!(rt; calls(&FETCHED) && publishes(true, &KEPT));
+    calls(&rt, &FETCHED);
+    publishes(&rt, true, &KEPT);
 }
 
 // Does a serve of this record, in a buffer of so many octets, tell this, and leave the buffer where it is refused?
-fn serves<C: Carrier>(
-    link: &mut Link<Draw, C>,
-    given: Draw,
-    room: usize,
-    told: (u8, u32, u8),
-) -> bool {
-    let mut all = [0xA5; ROOM];
-    if room > ROOM {
+fn serves<C: Carrier>(link: &mut Link<Draw, C>, given: Draw, room: usize, told: Told) -> bool {
+    let mut all = [BLANK; LONGEST];
+    let Some(buffer) = all.get_mut(..room) else {
         return false;
-    }
-    let buffer = &mut all[0..room];
-    let answer = link.serve(given, ResponseFlags::of(0), buffer);
-    telling(answer) == told && (told.0 < 7 || is_filled(buffer, 0))
+    };
+    let answer = served(link, given, 0, buffer);
+    Told::from(answer) == told && (answer.is_ok() || is_left(buffer, 0))
 }
 
 // An unsound record is refused before and after a sound one; the serve after that tells this.
-fn refuses_unsound<C: Carrier + Drop>(carrier: C, last: (u8, u32, u8)) -> bool {
-    let mut link: Link<Draw, C> = link_over(carrier, true);
-    let mut good = cycled(&mut link, 0).is_some();
+fn refuses_unsound<C: Carrier + Drop>(rt: &impl Abort, carrier: C, last: Told) {
+    let mut link = link_over::<Draw, C>(carrier, true);
+    assert!(rt; cycled(&mut link, 0).is_some());
     for (given, room, told) in [
-        (Draw::Run(f64::NAN), 1524, (7, 0, 0)),
-        (Draw::Run(f64::NAN), ROOM, (8, 0, 0)),
-        (Draw::Run(12.5), ROOM, (NEW, 256, 4)),
-        (Draw::Preset(f64::INFINITY), ROOM, (8, 0, 0)),
-        (Draw::Preset(1.5), ROOM, last),
+        (Draw::Run(f64::NAN), 1524, Refused(7)),
+        (Draw::Run(f64::NAN), LONGEST, Refused(8)),
+        (Draw::Run(12.5), LONGEST, New(256, 4)),
+        (Draw::Preset(f64::INFINITY), LONGEST, Refused(8)),
+        (Draw::Preset(1.5), LONGEST, last),
     ] {
-        good &= serves(&mut link, given, room, told);
+        let good = serves(&mut link, given, room, told);
+        assert!(rt; good, "{given:?} in {room}: {told:?}");
     }
-    match cycled(&mut link, 1) {
-        Some(answer) => good && matches!(answer.shown.safety_data, Draw::Run(rate) if rate == 12.5),
-        None => false,
-    }
+    let shown = cycled(&mut link, 1).map(|answer| answer.shown.safety_data);
+    assert_eq!(rt; shown, Some(Draw::Run(12.5)));
 }
 
 // Over the calling carrier the request was not fetched by the refused serve; over the publishing one it comes again.
@@ -136,10 +133,6 @@ fn refuses_unsound<C: Carrier + Drop>(carrier: C, last: (u8, u32, u8)) -> bool {
 fn unsound_records(rt: HostRuntime) {
     let mut up_memory = [0; SLOT];
     let mut down_memory = [0; SLOT];
-    let mut up = SlotLane::new(&mut up_memory);
-    let mut down = SlotLane::new(&mut down_memory);
-    assert!(rt;
-        refuses_unsound(Calling::new(&mut up, &mut down), (IDLE, 0, 0))
-            && refuses_unsound(Publishing::new(), (AGAIN, 256, 4))
-    );
+    refuses_unsound(&rt, Calling::new(&mut up_memory, &mut down_memory), Idle);
+    refuses_unsound(&rt, Publishing::new(), Again(256, 4));
 }

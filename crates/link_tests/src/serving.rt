@@ -1,66 +1,74 @@
 // What a serve tells and sends, and the numbers of requests.
-use crate::common::{ROOM, cycled, link_over, meter, parameters};
-use crate::steps::{ACCEPTED, AGAIN, BLANK, IDLE, NEW, STARTED, Step, publishes};
-use carrier::Carrier;
+use crate::bench::publishes;
+use crate::common::{cycled, link_over, meter, parameters, served};
+use crate::serving::Reply::*;
+use crate::steps::Heard::*;
+use crate::steps::Sight::*;
+use crate::steps::Step::{self, *};
+use crate::steps::Told::*;
 use carrier::lane::Lane;
 use carrier::publishing::Publishing;
 use consumer::start::StartNumber;
 use link::link::Link;
-use message::flags::ResponseFlags;
+use message::response::LONGEST;
 use provider::answer::ServeAnswer;
 use record::meter::Meter;
 use std::test::Fail;
 
 // A request that comes again is answered with the first record and flags; a refused serve changes nothing of that.
 const AGAIN_AND_NEW: [Step; 12] = [
-    Step::Serve(10, 0, (IDLE, 0, 0)),
-    Step::On(0, STARTED, BLANK),
-    Step::Serve(11, 4, (NEW, 256, 4)),
-    Step::Short(1),
-    Step::Serve(12, 0, (AGAIN, 256, 4)),
-    Step::Serve(13, 1, (AGAIN, 256, 4)),
-    Step::On(2, ACCEPTED, (8, 11)),
-    Step::Serve(14, 1, (NEW, 257, 0)),
-    Step::On(3, ACCEPTED, (4, 14)),
-    Step::Serve(15, 2, (NEW, 258, 0)),
-    Step::On(4, ACCEPTED, BLANK),
-    Step::Serve(16, 0, (NEW, 259, 4)),
+    Serve(10, 0, Idle),
+    On(0, Started, Blank),
+    Serve(11, 4, New(256, 4)),
+    Short(1),
+    Serve(12, 0, Again(256, 4)),
+    Serve(13, 1, Again(256, 4)),
+    On(2, Accepted, ValuesInTest(11)),
+    Serve(14, 1, New(257, 0)),
+    On(3, Accepted, ValuesAcknowledged(14)),
+    Serve(15, 2, New(258, 0)),
+    On(4, Accepted, Blank),
+    Serve(16, 0, New(259, 4)),
 ];
 
 #[test]
 fn again_and_new(rt: HostRuntime) {
-    assert!(rt; publishes(true, &AGAIN_AND_NEW));
+    publishes(&rt, true, &AGAIN_AND_NEW);
 }
 
-// What a serve tells of a request: new or again, and its octets.
-fn served(link: &mut Link<Meter, Publishing>) -> (u8, [u8; 9]) {
-    let mut buffer = [0; ROOM];
-    match link.serve(meter(11), ResponseFlags::of(0), &mut buffer) {
-        Ok(ServeAnswer::New(request)) => (NEW, request.octets()),
-        Ok(ServeAnswer::Again(request)) => (AGAIN, request.octets()),
-        _ => (IDLE, [0; 9]),
+// The octets of a request that is answered.
+#[derive(Clone, Copy, Debug, PartialEq)]
+enum Reply {
+    Fresh([u8; 9]),
+    Repeated([u8; 9]),
+}
+
+fn answered(link: &mut Link<Meter, Publishing>) -> Option<Reply> {
+    match served(link, meter(11), 0, &mut [0; LONGEST]).ok()? {
+        ServeAnswer::Idle => None,
+        ServeAnswer::New(request) => Some(Fresh(request.octets())),
+        ServeAnswer::Again(request) => Some(Repeated(request.octets())),
     }
 }
 
-// Strangers' requests one after the other: consumer number, monitoring number, flags; and which are new.
-const STRANGE: [([u8; 9], u8); 6] = [
-    ([1, 2, 3, 4, 5, 6, 7, 8, 3], NEW),
-    ([1, 2, 3, 4, 5, 6, 7, 8, 6], AGAIN),
-    ([1, 2, 3, 9, 5, 6, 7, 8, 6], NEW),
-    ([1, 2, 3, 9, 5, 6, 7, 9, 5], NEW),
-    ([1, 2, 3, 4, 5, 6, 7, 8, 0], NEW),
-    ([0, 0, 0, 0, 0, 0, 0, 0, 0], NEW),
+// Strangers' requests one after the other: consumer number, monitoring number, flags.
+const STRANGE: [Reply; 6] = [
+    Fresh([1, 2, 3, 4, 5, 6, 7, 8, 3]),
+    Repeated([1, 2, 3, 4, 5, 6, 7, 8, 6]),
+    Fresh([1, 2, 3, 9, 5, 6, 7, 8, 6]),
+    Fresh([1, 2, 3, 9, 5, 6, 7, 9, 5]),
+    Fresh([1, 2, 3, 4, 5, 6, 7, 8, 0]),
+    Fresh([0, 0, 0, 0, 0, 0, 0, 0, 0]),
 ];
 
 #[test]
 fn fields(rt: HostRuntime) {
-    let mut link: Link<Meter, Publishing> = link_over(Publishing::new(), true);
-    let mut good = true;
-    for (octets, told) in STRANGE {
-        good &= link.place(Lane::Up, &octets).is_ok();
-        good &= served(&mut link) == (told, octets);
+    let mut link = link_over::<Meter, Publishing>(Publishing::new(), true);
+    for row in STRANGE {
+        let (Fresh(octets) | Repeated(octets)) = row;
+        assert!(rt; link.place(Lane::Up, &octets).is_ok(), "{octets:?}");
+        assert_eq!(rt; answered(&mut link), Some(row));
     }
-    assert!(rt; good);
 }
 
 // Requests from the highest number on.
@@ -72,15 +80,11 @@ const HIGHEST: [[u8; 9]; 3] = [
 
 #[test]
 fn numbers_wrap(rt: HostRuntime) -> Result<(), Fail> {
-    let Ok(start) = StartNumber::new(4_294_967_295) else {
-        return Err(Fail::new("the start number is refused"));
-    };
-    let mut link: Link<Meter, Publishing> = Link::new(parameters(true), start, Publishing::new());
-    let mut good = true;
+    let start = StartNumber::new(4_294_967_295)?;
+    let mut link = Link::new(parameters(true), start, Publishing::new());
     for octets in HIGHEST {
-        good &= cycled(&mut link, 0).is_some();
-        good &= served(&mut link) == (NEW, octets);
+        assert!(rt; cycled(&mut link, 0).is_some());
+        assert_eq!(rt; answered(&mut link), Some(Fresh(octets)));
     }
-    assert!(rt; good);
     Ok(())
 }

@@ -1,97 +1,111 @@
-use crate::setup::{Making, Setup, Step};
+use crate::acting::act;
+use crate::chosen::{Chosen, Step};
 use crate::source::Source;
 use crate::trouble::Trouble;
+use calling::Calling;
 use carrier::Carrier;
+use carrier::publishing::Publishing;
+use consumer::setup::Setup;
+use disturber::Disturber;
 use link::link::Link;
-use message::flags::ResponseFlags;
+use record::draw::Draw;
+use record::meter::Meter;
 use script::expected::Expected;
 use script::kinds::Written;
-use script::line::Call;
-use script::show::{cycle_text, place_text, serve_text};
+use script::line::{Call, Kind, Network};
 use std::io::BufRead;
 
-// A message has at most 1,525 octets, so a buffer of more octets than this is used no otherwise.
-const LONG_BUFFER: u64 = 65_536;
-
-fn cycle<K: Written, C: Carrier>(
-    rt: &HostRuntime,
-    link: &mut Link<K, C>,
-    reading: u64,
-    enable: bool,
-    ack: bool,
-    octets: u64,
-) -> Result<(), Trouble> {
-    let mut buffer = vec![in rt.alloc(); 0u8; octets.min(LONG_BUFFER) as usize]?;
-    let answer = link.cycle(reading, enable, ack, buffer.as_mut_slice());
-    let text = cycle_text(rt.alloc(), reading, answer)?;
-    println!(rt; "{text}")?;
-    Ok(())
+// A script that is run: what it chose, and the lines that are still to come.
+#[derive(Drop)]
+pub struct Bench<'a, R> {
+    rt: &'a HostRuntime,
+    chosen: Chosen,
+    source: Source<R>,
 }
 
-fn serve<K: Written, C: Carrier>(
-    rt: &HostRuntime,
-    link: &mut Link<K, C>,
-    given: K,
-    flags: ResponseFlags,
-    octets: u64,
-) -> Result<(), Trouble> {
-    let mut buffer = vec![in rt.alloc(); 0u8; octets.min(LONG_BUFFER) as usize]?;
-    let answer = link.serve(given, flags, buffer.as_mut_slice());
-    // a response stands at the start of the buffer
-    let sent = buffer
-        .as_slice()
-        .get(0..K::octet_length() + 25)
-        .unwrap_or(&[]);
-    let text = serve_text(rt.alloc(), answer, sent)?;
-    println!(rt; "{text}")?;
-    Ok(())
-}
+impl<'a, R: BufRead + Drop> Bench<'a, R> {
+    pub fn new(rt: &'a HostRuntime, source: Source<R>) -> Bench<'a, R> {
+        Bench {
+            rt,
+            chosen: Chosen::new(),
+            source,
+        }
+    }
 
-// One call on the link.
-fn act<K: Written, C: Carrier, R: BufRead + Drop>(
-    rt: &HostRuntime,
-    link: &mut Link<K, C>,
-    source: &Source<R>,
-    call: Call,
-) -> Result<(), Trouble> {
-    match call {
-        Call::Cycle {
-            reading,
-            enable,
-            ack,
-            buffer,
-        } => cycle(rt, link, reading, enable, ack, buffer),
-        Call::Serve {
-            given,
-            flags,
-            buffer,
-        } => {
-            let Some(given) = K::of(given) else {
-                return Err(source.expected(Expected::RecordOfKind));
+    // The lines until one makes a link; each call before it is passed on with the number of its line.
+    fn until_link<F: FnMut(u64, Call) -> Result<(), Trouble>>(
+        &mut self,
+        mut call_link: F,
+    ) -> Result<Option<Setup>, Trouble>
+        requires { F.IsAlwaysCallable call_link }
+    {
+        for line in self.source.by_ref() {
+            let (number, line) = line?;
+            match self.chosen.step(self.rt, number, line)? {
+                None => {}
+                Some(Step::Link(setup)) => return Ok(Some(setup)),
+                Some(Step::Call(call)) => call_link(number, call)?,
+            }
+        }
+        Ok(None)
+    }
+
+    // A link over a carrier.
+    fn run_link<K: Written + Drop, C: Carrier + Drop>(
+        &mut self,
+        setup: Setup,
+        carrier: C,
+    ) -> Result<Option<Setup>, Trouble> {
+        let rt = self.rt;
+        let mut link: Link<K, C> = Link::new(setup.parameters, setup.start, carrier);
+        self.until_link(|number, call| act(rt, &mut link, number, call))
+    }
+
+    // A link over a carrier, with a disturber where the script has one.
+    fn run_carrier<K: Written + Drop, C: Carrier + Drop>(
+        &mut self,
+        setup: Setup,
+        carrier: C,
+    ) -> Result<Option<Setup>, Trouble> {
+        match self.chosen.script() {
+            Some(script) => self.run_link::<K, Disturber<C>>(
+                setup,
+                Disturber::new(carrier, script),
+            ),
+            None => self.run_link::<K, C>(setup, carrier),
+        }
+    }
+
+    // A link of a kind, over the carrier that the script chose.
+    fn run_kind<K: Written + Drop>(&mut self, setup: Setup) -> Result<Option<Setup>, Trouble> {
+        match self.chosen.network {
+            Network::Publishing => self.run_carrier::<K, Publishing>(setup, Publishing::new()),
+            Network::Calling { up, down } => {
+                let heap = self.rt.alloc();
+                let mut up_memory = vec![in heap; 0u8; up as usize]?;
+                let mut down_memory = vec![in heap; 0u8; down as usize]?;
+                let carrier = Calling::new(up_memory.as_mut_slice(), down_memory.as_mut_slice());
+                self.run_carrier::<K, _>(setup, carrier)
+            }
+        }
+    }
+
+    // Each link in turn, from the first line to the last.
+    pub fn run(&mut self) -> Result<(), Trouble> {
+        let mut next = self.until_link(|number, _call| Err(Trouble::expected(
+            number,
+            Expected::LinkFirst,
+        )))?;
+        // a loop over input has no measure of its own
+        for _ in 0..u64::MAX {
+            let Some(setup) = next else {
+                break;
             };
-            serve(rt, link, given, flags, buffer)
+            next = match self.chosen.kind {
+                Kind::Meter => self.run_kind::<Meter>(setup)?,
+                Kind::Draw => self.run_kind::<Draw>(setup)?,
+            };
         }
-        Call::Place { lane, octets } => {
-            let text = place_text(rt.alloc(), lane, link.place(lane, octets.as_slice()))?;
-            println!(rt; "{text}")?;
-            Ok(())
-        }
+        Ok(())
     }
-}
-
-// The calls on one link, until the script ends or makes another.
-pub fn run_link<K: Written + Drop, C: Carrier + Drop, R: BufRead + Drop>(
-    rt: &HostRuntime,
-    mut link: Link<K, C>,
-    setup: &mut Setup,
-    source: &mut Source<R>,
-) -> Result<Option<Making>, Trouble> {
-    for _ in 0..u64::MAX {
-        match setup.advance(rt, source)? {
-            Step::End => return Ok(None),
-            Step::Link(making) => return Ok(Some(making)),
-            Step::Call(call) => act(rt, &mut link, source, call)?,
-        }
-    }
-    Ok(None)
 }

@@ -1,33 +1,36 @@
 // Runs scripts of calls on links, from standard input or from files, and prints each answer.
 #![tactic(auto)]
 
+mod acting;
 mod bench;
-mod making;
-mod setup;
+mod chosen;
 mod source;
 mod trouble;
 
-use making::run_script;
+use bench::Bench;
 use source::Source;
-use std::io::BufReader;
+use std::io::{BufReader, Read};
 use std::process::ExitCode;
 use std::{env, fs};
 use trouble::Trouble;
 
-fn run_input(rt: &HostRuntime) -> Result<(), Trouble> {
-    run_script(
-        rt,
-        Source::new(rt.alloc(), BufReader::new(rt.alloc(), rt.stdin())?),
-    )
+fn run_script(rt: &HostRuntime, reader: impl Read + Drop) -> Result<(), Trouble> {
+    let reader = BufReader::new(rt.alloc(), reader)?;
+    Bench::new(rt, Source::new(rt.alloc(), reader)).run()
 }
 
 fn run_file(rt: &HostRuntime, name: &str) -> Result<(), Trouble> {
     println!(rt; "== {name}")?;
-    let file = fs::open(rt, name)?;
-    run_script(
-        rt,
-        Source::new(rt.alloc(), BufReader::new(rt.alloc(), file)?),
-    )
+    run_script(rt, fs::open(rt, name)?)
+}
+
+// Runs standard input; what ends the run early is told.
+fn run_input(rt: &HostRuntime) -> Result<(), Trouble> {
+    let ran = run_script(rt, rt.stdin());
+    if let Err(trouble) = &ran {
+        eprintln!(rt; "{trouble}")?;
+    }
+    ran
 }
 
 // Runs a file; what ends the run early is told with the file's name.
@@ -42,14 +45,9 @@ fn run_named(rt: &HostRuntime, name: &str) -> Result<(), Trouble> {
 fn run(rt: &HostRuntime) -> Result<(), Trouble> {
     let mut names = env::args(rt)?;
     let _program = names.next();
-    let Some(first) = names.next() else {
-        let ran = run_input(rt);
-        if let Err(trouble) = &ran {
-            eprintln!(rt; "{trouble}")?;
-        }
-        return ran;
-    };
-    run_named(rt, first.as_str())?;
+    if names.len() == 0 {
+        return run_input(rt);
+    }
     for name in names {
         run_named(rt, name.as_str())?;
     }

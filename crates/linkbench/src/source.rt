@@ -24,25 +24,29 @@ impl<R: BufRead + Drop> Source<R> {
         }
     }
 
-    // The next line that asks something, if any.
-    pub fn next(&mut self) -> Result<Option<Line>, Trouble> {
-        let Some(line) = self.lines.next() else {
-            return Ok(None);
-        };
-        self.number = self.number.saturating_add(1);
+    // What a line asks, by its number from 1.
+    fn read(&self, line: io::Result<String>) -> Result<(u64, Line), Trouble> {
         match line {
-            Ok(text) => Ok(Some(read_line(self.heap, self.number, text.as_str())?)),
-            Err(e) => {
-                if e.kind() == io::ErrorKind::InvalidData {
-                    return Err(self.expected(Expected::Text));
-                }
-                Err(Trouble::Stream(e))
+            Ok(text) => Ok((
+                self.number,
+                read_line(self.heap, self.number, text.as_str())?,
+            )),
+            Err(e) if e.kind() == io::ErrorKind::InvalidData => {
+                Err(Trouble::expected(self.number, Expected::Text))
             }
+            Err(e) => Err(Trouble::Stream(e)),
         }
     }
+}
 
-    // The line that was read last should have had something else.
-    pub fn expected(&self, expected: Expected) -> Trouble {
-        Trouble::expected(self.number, expected)
+impl<R: BufRead + Drop> Iterator for Source<R> {
+    type Item = Result<(u64, Line), Trouble>;
+
+    ghost remaining = { λ s. ⟦<Lines<R> as Iterator>⟧.remaining s.lines };
+
+    fn next(&mut self) -> Option<Result<(u64, Line), Trouble>> {
+        let line = self.lines.next()?;
+        self.number = self.number.saturating_add(1);
+        Some(self.read(line))
     }
 }

@@ -1,13 +1,17 @@
-use script::expected::{BadLine, Expected, LineFault};
+use script::expected::{BadLine, Expected};
 use std::alloc::AllocError;
-use std::{fmt, io};
+use std::io;
+use thiserror::Error;
 
 // Why a run ended early.
-#[derive(Drop)]
+#[derive(Debug, Drop, Error)]
 pub enum Trouble {
-    Stream(io::Error),
-    Line(BadLine),
-    Memory,
+    #[error(transparent)]
+    Stream(#[from] io::Error),
+    #[error(transparent)]
+    Line(#[from] BadLine),
+    #[error("out of memory")]
+    Memory(#[from(alloc)] AllocError),
 }
 
 impl Trouble {
@@ -15,35 +19,7 @@ impl Trouble {
     pub fn expected(number: u64, expected: Expected) -> Trouble {
         Trouble::Line(BadLine {
             number,
-            fault: LineFault::Expected(expected),
+            fault: expected.into(),
         })
-    }
-}
-
-impl From<io::Error> for Trouble {
-    fn from(e: io::Error) -> Trouble {
-        Trouble::Stream(e)
-    }
-}
-
-impl From<BadLine> for Trouble {
-    fn from(e: BadLine) -> Trouble {
-        Trouble::Line(e)
-    }
-}
-
-impl From<AllocError> for Trouble {
-    fn from(_e: AllocError) -> Trouble {
-        Trouble::Memory
-    }
-}
-
-impl fmt::Display for Trouble {
-    fn fmt<W: fmt::Write>(&self, f: &mut fmt::Formatter<W>) -> fmt::Result {
-        match self {
-            Trouble::Stream(e) => write!(f, "{e}"),
-            Trouble::Line(e) => write!(f, "{e}"),
-            Trouble::Memory => write!(f, "out of memory"),
-        }
     }
 }

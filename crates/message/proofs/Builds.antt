@@ -91,11 +91,10 @@ module _ {R : Type 0} (f : Format R) (laws : Lawful f) (p : Parameters) (r : Res
   pub build_ok : Ok (n + 25) ≡ build_answer f r d
   build_ok = simp (le-ltb (length d) longest large, sound) (ap (λ k. Ok (k + 25)) is)
 
-  pub build_done : (b b2 : List ℕ) (flags : ℕ) (ids : Identities) → b ≡ encoded f r.safety_data d
-      → flags ≡ response_octet r.flags → ids ≡ identities_of f p
-      → b2 ≡ with_signature (take n b ++ trailer flags ids r.consumer_id r.monitoring_number) ++ drop (n + 25) b
+  pub build_done : (b b2 : List ℕ) (ids : Identities) → b ≡ encoded f r.safety_data d → ids ≡ identities_of f p
+      → b2 ≡ with_signature (take n b ++ trailer (response_octet r.flags) ids r.consumer_id r.monitoring_number) ++ drop (n + 25) b
       → b2 ≡ built f p r d
-  build_done b b2 flags ids e hf hi w =
+  build_done b b2 ids e hi w =
       let few = laws.few in
       let s = f.octets r.safety_data in
       let long : length s ≡ n = laws.whole r.safety_data sound ∙ sym is in
@@ -103,7 +102,7 @@ module _ {R : Type 0} (f : Format R) (laws : Lawful f) (p : Parameters) (r : Res
       let front : take n b ≡ s = rw at (take_at s (drop n d) n long) in
       let rest : drop (n + 25) b ≡ drop (n + 25) d =
       sym (drop-drop 25 n b) ∙ ap (λ x. drop 25 (drop n x)) at ∙ ap (drop 25) (drop_at s (drop n d) n long) ∙ drop-drop 25 n d in
-      let all : b2 ≡ response_octets f p r ++ drop (n + 25) d = rw (front, rest, hf, hi) at w in
+      let all : b2 ≡ response_octets f p r ++ drop (n + 25) d = rw (front, rest, hi) at w in
       simp (le-ltb (length d) longest large, sound) (all ∙ ap (λ k. response_octets f p r ++ drop (k + 25) d) is)
 
 -- a response has 25 octets more than its record

@@ -1,5 +1,6 @@
 -- Which messages are sound, and which are all zero.
-use Rattle.std.specs.Prelude.{ℕ, ◌-◌, Bool, true, false, cond, ◌&&◌, List, [], ◌∷◌, length, take, ◌==◌, nat_lt}
+use Rattle.std.specs.Prelude.{ℕ, ◌-◌, Bool, false, cond, List, length, take, ◌==◌, nat_lt}
+use Rattle.std.specs.List.{list_all}
 use Rattle.message.specs.Layout.{u32_at}
 use Rattle.signature.specs.Signature.{signature}
 
@@ -13,5 +14,4 @@ sound m = cond (nat_lt (length m) 26) false (signed m)
 
 -- every octet is zero
 abbrev pub all_zero : List ℕ → Bool
-all_zero [] = true
-all_zero (x ∷ xs) = x == 0 && all_zero xs
+all_zero m = list_all (λ x. x == 0) m

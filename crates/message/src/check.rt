@@ -10,7 +10,7 @@ use record::kind::RecordKind;
 use signature::signature;
 
 // What a response that passed its checks says beside its record.
-#[derive(Clone, Copy)]
+#[derive(Clone, Copy, Debug, PartialEq, Eq)]
 pub struct Checked {
     pub monitoring_number: u32,
     pub flags: ResponseFlags,
@@ -32,6 +32,7 @@ fn judge(
     if u32_at(message, size + 21) != signature(&message[0..size + 21]) {
         return Err(MessageFault::Signature { place: size + 21 });
     }
+    // three tests: a loop over the identity numbers takes as many lines, and an invariant written by hand besides
     if u32_at(message, size + 1) != identities.first {
         return Err(MessageFault::Identity { place: size + 1 });
     }
@@ -46,7 +47,7 @@ fn judge(
     }
     Ok(Checked {
         monitoring_number: u32_at(message, size + 17),
-        flags: ResponseFlags::of(message[size]),
+        flags: ResponseFlags::from(message[size]),
     })
 }
 
@@ -60,7 +61,7 @@ pub fn check<K: RecordKind>(
 {
     judge(
         message,
-        K::octet_length(),
+        K::LENGTH,
         Identities::of::<K>(parameters),
         parameters.consumer_id,
     )
@@ -70,10 +71,9 @@ pub fn check<K: RecordKind>(
 pub fn read_record<K: RecordKind>(message: &[u8]) -> Result<K, MessageFault>
     ensures { result ≡ record_read K.RecordKind.format message.now }
 {
-    let size = K::octet_length();
+    let size = K::LENGTH;
     if message.len() != size + 25 {
         return Err(MessageFault::Length);
     }
-    let read = K::decode(&message[0..size])?;
-    Ok(read)
+    Ok(K::decode(&message[0..size])?)
 }

@@ -5,7 +5,7 @@ ghost use Rattle.message.specs.declared.fault.MessageFault.TheVariants.{Record};
 use record::fault::{Layer, RecordFault};
 
 // Why a message is not the response that it should be, with the octet at which the offending field begins.
-#[derive(Clone, Copy)]
+#[derive(Clone, Copy, Debug, PartialEq, Eq)]
 pub enum MessageFault {
     // another number of octets than a response has
     Length,
@@ -17,12 +17,12 @@ pub enum MessageFault {
 }
 
 impl MessageFault {
+    // The number that the rules of the link give it.
     pub fn number(&self) -> u8
         ensures { result ≡ message_number self.now }
     {
         match self {
-            MessageFault::Length => 21,
-            MessageFault::Signature { .. } => 21,
+            MessageFault::Length | MessageFault::Signature { .. } => 21,
             MessageFault::Identity { .. } => 22,
             MessageFault::Consumer { .. } => 23,
             MessageFault::Record(fault) => fault.number(),
@@ -43,9 +43,9 @@ impl MessageFault {
     {
         match self {
             MessageFault::Length => 0,
-            MessageFault::Signature { place } => *place,
-            MessageFault::Identity { place } => *place,
-            MessageFault::Consumer { place } => *place,
+            MessageFault::Signature { place }
+            | MessageFault::Identity { place }
+            | MessageFault::Consumer { place } => *place,
             MessageFault::Record(fault) => fault.place(),
         }
     }

@@ -1,8 +1,8 @@
-ghost use Rattle.std.specs.Prelude.{◌≡◌};
-ghost use Rattle.message.specs.Flags.{request_octet, request_flags, response_octet, response_flags};
+ghost use Rattle.std.specs.Prelude.{◌≡◌, ◌/◌, ◌%◌, ◌==◌, [], ◌∷◌};
+ghost use Rattle.message.specs.Flags.{flag_octet, flag_at, request_octet, request_flags, response_octet, response_flags};
 
 // What a request tells the provider of the consumer.
-#[derive(Clone, Copy)]
+#[derive(Clone, Copy, Debug, Default, PartialEq, Eq)]
 pub struct RequestFlags {
     // a fault or an expiry came since the request before
     pub communication_error: bool,
@@ -12,29 +12,9 @@ pub struct RequestFlags {
     pub fsv_activated: bool,
 }
 
-impl RequestFlags {
-    pub fn octet(&self) -> u8
-        ensures { result ≡ request_octet self.now }
-    {
-        u8::from(self.communication_error)
-            + 2 * u8::from(self.operator_ack_requested)
-            + 4 * u8::from(self.fsv_activated)
-    }
-
-    // The three named bits; the others are not read.
-    pub fn of(octet: u8) -> RequestFlags
-        ensures { result ≡ request_flags octet }
-    {
-        RequestFlags {
-            communication_error: octet % 2 == 1,
-            operator_ack_requested: octet / 2 % 2 == 1,
-            fsv_activated: octet / 4 % 2 == 1,
-        }
-    }
-}
-
-// What a response tells the consumer of the provider.
-#[derive(Clone, Copy)]
+// What a response tells the consumer of the provider. A struct of its own, since these flags have other names and meanings
+// than those of a request; the bits of both are packed below.
+#[derive(Clone, Copy, Debug, Default, PartialEq, Eq)]
 pub struct ResponseFlags {
     // the provider passes on an operator's acknowledgment
     pub operator_ack_provider: bool,
@@ -44,23 +24,66 @@ pub struct ResponseFlags {
     pub test_mode_activated: bool,
 }
 
-impl ResponseFlags {
-    pub fn octet(&self) -> u8
-        ensures { result ≡ response_octet self.now }
-    {
-        u8::from(self.operator_ack_provider)
-            + 2 * u8::from(self.activate_fsv)
-            + 4 * u8::from(self.test_mode_activated)
-    }
+// The octet of three flags, the first in the lowest bit.
+fn packed(a: bool, b: bool, c: bool) -> u8
+    ensures { result ≡ flag_octet a b c }
+{
+    u8::from(a) + 2 * u8::from(b) + 4 * u8::from(c)
+}
 
-    // The three named bits; the others are not read.
-    pub fn of(octet: u8) -> ResponseFlags
-        ensures { result ≡ response_flags octet }
-    {
-        ResponseFlags {
-            operator_ack_provider: octet % 2 == 1,
-            activate_fsv: octet / 2 % 2 == 1,
-            test_mode_activated: octet / 4 % 2 == 1,
+// The three lowest bits of an octet, the lowest first; the others are not read.
+fn unpacked(octet: u8) -> [bool; 3]
+    ensures { result ≡ (octet % 2 == 1) ∷ flag_at 2 octet ∷ flag_at 4 octet ∷ [] }
+{
+    [octet % 2 == 1, octet / 2 % 2 == 1, octet / 4 % 2 == 1]
+}
+
+impl From<u8> for RequestFlags {
+    ghost from_gives = { λ octet r. r ≡ request_flags octet };
+
+    fn from(octet: u8) -> RequestFlags {
+        let [communication_error, operator_ack_requested, fsv_activated] = unpacked(octet);
+        RequestFlags {
+            communication_error,
+            operator_ack_requested,
+            fsv_activated,
         }
+    }
+}
+
+impl From<RequestFlags> for u8 {
+    ghost from_gives = { λ flags r. r ≡ request_octet flags };
+
+    fn from(flags: RequestFlags) -> u8 {
+        packed(
+            flags.communication_error,
+            flags.operator_ack_requested,
+            flags.fsv_activated,
+        )
+    }
+}
+
+impl From<u8> for ResponseFlags {
+    ghost from_gives = { λ octet r. r ≡ response_flags octet };
+
+    fn from(octet: u8) -> ResponseFlags {
+        let [operator_ack_provider, activate_fsv, test_mode_activated] = unpacked(octet);
+        ResponseFlags {
+            operator_ack_provider,
+            activate_fsv,
+            test_mode_activated,
+        }
+    }
+}
+
+impl From<ResponseFlags> for u8 {
+    ghost from_gives = { λ flags r. r ≡ response_octet flags };
+
+    fn from(flags: ResponseFlags) -> u8 {
+        packed(
+            flags.operator_ack_provider,
+            flags.activate_fsv,
+            flags.test_mode_activated,
+        )
     }
 }

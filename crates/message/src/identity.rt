@@ -23,7 +23,7 @@ impl Identities {
         let base = parameters.base_id;
         Identities {
             first: base.w1 ^ LEVEL_CODES[(parameters.level - 1) as usize],
-            second: base.w2 ^ K::structure(),
+            second: base.w2 ^ K::STRUCTURE_SIGNATURE,
             third: base.w3 ^ base.w4 ^ parameters.provider_id,
         }
     }

@@ -1,23 +1,23 @@
 ghost use Rattle.std.specs.Prelude.{◌≡◌};
 ghost use Rattle.message.specs.Loopback.{loopback_answer, loopback_number};
-ghost use Rattle.message.specs.Response.{built, response_of};
+ghost use Rattle.message.specs.Response.{built};
 ghost use Rattle.message.specs.declared.loopback.LoopbackFault.TheVariants.{Build, Judge};
 
 use crate::check::{Checked, check, read_record};
 use crate::fault::MessageFault;
-use crate::flags::ResponseFlags;
 use crate::parameters::Parameters;
 use crate::response::{BuildRefusal, Response};
 use record::kind::RecordKind;
 
 // Why a response did not come back: it was not built, or not accepted.
-#[derive(Clone, Copy)]
+#[derive(Clone, Copy, Debug, PartialEq, Eq)]
 pub enum LoopbackFault {
     Build(BuildRefusal),
     Judge(MessageFault),
 }
 
 impl LoopbackFault {
+    // The number that the rules of the link give it.
     pub fn number(&self) -> u8
         ensures { result ≡ loopback_number self.now }
     {
@@ -55,23 +55,12 @@ pub struct Returned<K> {
 // record for this consumer passes every check and gives that record, those flags and that number back.
 pub fn loopback<K: RecordKind>(
     parameters: &Parameters,
-    safety_data: K,
-    flags: ResponseFlags,
-    consumer_id: u32,
-    monitoring_number: u32,
+    response: Response<K>,
     buffer: &mut [u8],
 ) -> Result<Returned<K>, LoopbackFault>
-    ensures answer { result ≡ loopback_answer K.RecordKind.format parameters.now
-        (response_of safety_data flags consumer_id monitoring_number) buffer.old }
-    ensures written { buffer.new ≡ built K.RecordKind.format parameters.now
-        (response_of safety_data flags consumer_id monitoring_number) buffer.old }
+    ensures answer { result ≡ loopback_answer K.RecordKind.format parameters.now response buffer.old }
+    ensures written { buffer.new ≡ built K.RecordKind.format parameters.now response buffer.old }
 {
-    let response = Response {
-        safety_data,
-        flags,
-        consumer_id,
-        monitoring_number,
-    };
     let end = response.build(parameters, buffer)?;
     let checked = check::<K>(parameters, &buffer[0..end])?;
     let safety_data = read_record::<K>(&buffer[0..end])?;

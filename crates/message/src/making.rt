@@ -4,7 +4,7 @@ ghost use Rattle.message.specs.Making.{Made, parameter_number};
 use crate::parameters::{BaseId, Parameters};
 
 // Which of the parameters lies outside its limits: the first of those that do.
-#[derive(Clone, Copy)]
+#[derive(Clone, Copy, Debug, PartialEq, Eq)]
 pub enum ParameterRefusal {
     Level,
     Timeout,
@@ -12,6 +12,7 @@ pub enum ParameterRefusal {
 }
 
 impl ParameterRefusal {
+    // The number that the rules of the link give it.
     pub fn number(&self) -> u8
         ensures { result ≡ parameter_number self.now }
     {
@@ -60,15 +61,16 @@ impl Parameters {
             error_interval,
             operator_ack_necessary,
         } = settings;
-        if level < 1 || level > 4 {
+        if !(1..=4).contains(&level) {
             return Err(ParameterRefusal::Level);
         }
-        if timeout < 1 || timeout > 3_600_000 {
+        if !(1..=3_600_000).contains(&timeout) {
             return Err(ParameterRefusal::Timeout);
         }
-        if error_interval != 6 && error_interval != 60 && error_interval != 600 {
+        if !matches!(error_interval, 6 | 60 | 600) {
             return Err(ParameterRefusal::ErrorInterval);
         }
+        // field by field: `..` takes the rest from another `Parameters` only, and there is none yet
         Ok(Parameters {
             consumer_id,
             provider_id,

@@ -1,4 +1,5 @@
 ghost use Rattle.std.specs.Prelude.{◌≡◌, ◌+◌, ◌≤◌, ◌++◌, length, take, drop};
+ghost use Rattle.message.specs.Flags.{response_octet};
 ghost use Rattle.message.specs.Response.{build_answer, built, build_number, refused_encoding, with_signature, trailer};
 
 use crate::flags::ResponseFlags;
@@ -22,13 +23,14 @@ pub struct Response<K> {
 }
 
 // Why a response was not built.
-#[derive(Clone, Copy)]
+#[derive(Clone, Copy, Debug, PartialEq, Eq)]
 pub enum BuildRefusal {
     ShortBuffer,
     UnsoundRecord,
 }
 
 impl BuildRefusal {
+    // The number that the rules of the link give it.
     pub fn number(&self) -> u8
         ensures { result ≡ build_number self.now }
     {
@@ -50,28 +52,24 @@ impl From<EncodeRefusal> for BuildRefusal {
     }
 }
 
-// Writes what follows the record at the start of a buffer, and signs it.
-fn finish(
-    buffer: &mut [u8],
-    size: usize,
-    flags: u8,
-    identities: Identities,
-    consumer_id: u32,
-    monitoring_number: u32,
-)
-    requires { size + 25 ≤ length buffer.old }
-    ensures { buffer.new
-        ≡ with_signature (take size buffer.old ++ trailer flags identities consumer_id monitoring_number)
-        ++ drop (size + 25) buffer.old }
-{
-    buffer[size] = flags;
-    put_u32(buffer, size + 1, identities.first);
-    put_u32(buffer, size + 5, identities.second);
-    put_u32(buffer, size + 9, identities.third);
-    put_u32(buffer, size + 13, consumer_id);
-    put_u32(buffer, size + 17, monitoring_number);
-    let signature = signature(&buffer[0..size + 21]);
-    put_u32(buffer, size + 21, signature);
+impl<K> Response<K> {
+    // Writes what follows a record of `size` octets at the start of a buffer, and signs it.
+    fn finish(&self, identities: Identities, size: usize, buffer: &mut [u8])
+        requires { size + 25 ≤ length buffer.old }
+        ensures { buffer.new
+            ≡ with_signature (take size buffer.old
+            ++ trailer (response_octet self.now.flags) identities self.now.consumer_id self.now.monitoring_number)
+            ++ drop (size + 25) buffer.old }
+    {
+        buffer[size] = u8::from(self.flags);
+        put_u32(buffer, size + 1, identities.first);
+        put_u32(buffer, size + 5, identities.second);
+        put_u32(buffer, size + 9, identities.third);
+        put_u32(buffer, size + 13, self.consumer_id);
+        put_u32(buffer, size + 17, self.monitoring_number);
+        let signature = signature(&buffer[0..size + 21]);
+        put_u32(buffer, size + 21, signature);
+    }
 }
 
 impl<K: RecordKind> Response<K> {
@@ -84,16 +82,8 @@ impl<K: RecordKind> Response<K> {
             return Err(BuildRefusal::ShortBuffer);
         }
         self.safety_data.encode(buffer)?;
-        let size = K::octet_length();
-        let identities = Identities::of::<K>(parameters);
-        finish(
-            buffer,
-            size,
-            self.flags.octet(),
-            identities,
-            self.consumer_id,
-            self.monitoring_number,
-        );
+        let size = K::LENGTH;
+        self.finish(Identities::of::<K>(parameters), size, buffer);
         Ok(size + 25)
     }
 }

@@ -7,7 +7,7 @@ pub(crate) fn u32_at(octets: &[u8], at: usize) -> u32
     requires { at + 4 ≤ length octets.now }
     ensures { result ≡ u32_at octets.now at }
 {
-    u32::from_le_bytes([octets[at], octets[at + 1], octets[at + 2], octets[at + 3]])
+    u32::from_le_bytes(octets[at..at + 4].try_into().unwrap())
 }
 
 // Writes a number of 32 bits at a place.

@@ -1,5 +1,6 @@
 // Responses as they are built, and what is not built.
-use crate::common::{METER, ROOM, built, is_filled, parameters, response};
+use crate::common::{BLANK, METER, built, is_blank, parameters, response};
+use message::response::LONGEST;
 use record::draw::Draw;
 use record::kind::RecordKind;
 
@@ -30,9 +31,8 @@ const DRAW_SENT: [u8; 34] = [
 
 // Is the response built as these octets, and what lies behind them left?
 fn builds<K: RecordKind>(given: K, octets: &[u8]) -> bool {
-    let mut buffer = [0xA5; ROOM];
-    let end = octets.len();
-    &*built(given, &mut buffer) == octets && end <= ROOM && is_filled(&buffer[end..ROOM], 0xA5)
+    let mut buffer = [BLANK; LONGEST];
+    &*built(given, &mut buffer) == octets && buffer.get(octets.len()..).is_some_and(is_blank)
 }
 
 #[test]
@@ -40,31 +40,25 @@ fn fields(rt: HostRuntime) {
     assert!(rt; builds(METER, &METER_SENT) && builds(Draw::Run(12.5), &DRAW_SENT));
 }
 
-// The number of the refusal to build in a buffer of so many octets, if it left them; else 0.
-fn refusal<K: RecordKind>(given: K, room: usize) -> u8 {
-    let mut all = [0xA5; ROOM];
-    if room > ROOM {
-        return 0;
-    }
-    let buffer = &mut all[0..room];
-    match response(given).build(&parameters(), buffer) {
-        Err(refusal) if is_filled(buffer, 0xA5) => refusal.number(),
-        _ => 0,
-    }
+// The number of the refusal to build in a buffer of so many octets, if it left them.
+fn refusal<K: RecordKind>(given: K, room: usize) -> Option<u8> {
+    let mut all = [BLANK; LONGEST];
+    let buffer = all.get_mut(..room)?;
+    let refusal = response(given).build(&parameters(), buffer).err()?;
+    is_blank(buffer).then_some(refusal.number())
 }
 
 #[test]
 fn refusals(rt: HostRuntime) {
-    let mut good = refusal(METER, 1524) == 7;
+    assert_eq!(rt; refusal(METER, 1524), Some(7));
     for (given, room, number) in [
         (Draw::Stop, 0, 7),
         (Draw::Stop, 1524, 7),
         (Draw::Run(f64::INFINITY), 1524, 7),
-        (Draw::Run(f64::INFINITY), ROOM, 8),
-        (Draw::Run(f64::NAN), ROOM, 8),
-        (Draw::Preset(f64::NEG_INFINITY), ROOM, 8),
+        (Draw::Run(f64::INFINITY), LONGEST, 8),
+        (Draw::Run(f64::NAN), LONGEST, 8),
+        (Draw::Preset(f64::NEG_INFINITY), LONGEST, 8),
     ] {
-        good &= refusal(given, room) == number;
+        assert_eq!(rt; refusal(given, room), Some(number), "{given:?} in {room}");
     }
-    assert!(rt; good);
 }

@@ -7,9 +7,6 @@ use record::kind::RecordKind;
 use record::meter::Meter;
 use signature::signature;
 
-// As many octets as the longest message has.
-pub(crate) const ROOM: usize = 1525;
-
 pub(crate) const METER: Meter = Meter {
     pulses: 123_456,
     centidegrees: -1,
@@ -43,12 +40,7 @@ pub(crate) fn parameters() -> Parameters {
     Parameters {
         consumer_id: 0xA1B2_C3D4,
         provider_id: 0x1122_3344,
-        base_id: BaseId {
-            w1: 0x0123_4567,
-            w2: 0x89AB_CDEF,
-            w3: 0x0F1E_2D3C,
-            w4: 0x4B5A_6978,
-        },
+        base_id: BaseId::new(0x0123_4567, 0x89AB_CDEF, 0x0F1E_2D3C, 0x4B5A_6978),
         level: 3,
         timeout: 250,
         error_interval: 60,
@@ -70,53 +62,41 @@ pub(crate) fn response<K: RecordKind>(safety_data: K) -> Response<K> {
     }
 }
 
-// The response as it is built at the start of a buffer; no octet, if it is not built.
-pub(crate) fn built<'a, K: RecordKind>(given: K, buffer: &'a mut [u8]) -> &'a mut [u8] {
-    match response(given).build(&parameters(), buffer) {
-        Ok(end) if end <= buffer.len() => &mut buffer[0..end],
-        _ => &mut buffer[0..0],
-    }
+// Are the octets no record of the kind, for this fault?
+pub(crate) fn refuses<K: RecordKind>(octets: &[u8], fault: RecordFault) -> bool {
+    K::decode(octets).err() == Some(fault)
+        && (fault.number(), fault.layer(), fault.place()) == (25, Layer::Record, fault.place)
 }
 
-// Turns a bit of the octet at a place, if there is one.
-pub(crate) fn flip(octets: &mut [u8], at: usize) {
-    if at < octets.len() {
-        octets[at] ^= 0x40;
+// BLANK, `built`, `flip`, `sign` and `is_blank` stand in other tests too: a crate of them, with clauses, proofs
+// and edits, is longer. Parameters and records are inputs, each crate's own.
+
+// What stands in a buffer before it is lent.
+pub(crate) const BLANK: u8 = 0xA5;
+
+// The response as it is built at the start of a buffer; no octet, if it is not built.
+pub(crate) fn built<'a, K: RecordKind>(given: K, buffer: &'a mut [u8]) -> &'a mut [u8] {
+    let end = response(given).build(&parameters(), buffer).unwrap_or(0);
+    &mut buffer[..end]
+}
+
+// Turns a bit of each octet at one of these places.
+pub(crate) fn flip(octets: &mut [u8], places: &[usize]) {
+    for place in places {
+        if let Some(octet) = octets.get_mut(*place) {
+            *octet ^= 0x40;
+        }
     }
 }
 
 // Makes the last four octets the signature of those before.
 pub(crate) fn sign(message: &mut [u8]) {
-    let end = message.len();
-    if end < 4 {
-        return;
+    if let Some((before, last)) = message.split_last_chunk_mut() {
+        *last = signature(before).to_le_bytes();
     }
-    let last = signature(&message[0..end - 4]).to_le_bytes();
-    message[end - 4..end].copy_from_slice(&last);
 }
 
-// Is every octet this one?
-pub(crate) fn is_filled(octets: &[u8], with: u8) -> bool {
-    for octet in octets {
-        if *octet != with {
-            return false;
-        }
-    }
-    true
-}
-
-// Is it the record's fault of this cause at this place?
-pub(crate) fn is_record_fault(fault: &RecordFault, cause: RecordCause, place: usize) -> bool {
-    fault.cause as u8 == cause as u8
-        && fault.place() == place
-        && fault.number() == 25
-        && matches!(fault.layer(), Layer::Record)
-}
-
-// Are the octets no record of the kind, for this cause at this place?
-pub(crate) fn refuses<K: RecordKind>(octets: &[u8], cause: RecordCause, place: usize) -> bool {
-    match K::decode(octets) {
-        Ok(_) => false,
-        Err(fault) => is_record_fault(&fault, cause, place),
-    }
+// Was nothing written to the octets?
+pub(crate) fn is_blank(octets: &[u8]) -> bool {
+    octets.iter().all(|octet| *octet == BLANK)
 }

@@ -1,142 +1,128 @@
 // Responses that were changed, and the fault that each of them has.
-use crate::common::{
-    BAD_DRAWS, BAD_METERS, METER, ROOM, built, flip, is_record_fault, parameters, refuses, sign,
-};
-use message::check::read_record;
+use crate::common::{BAD_DRAWS, BAD_METERS, METER, built, flip, parameters, refuses, sign};
+use message::check::{check, read_record};
 use message::fault::MessageFault;
+use message::response::LONGEST;
 use record::draw::Draw;
-use record::fault::{Layer, RecordCause};
+use record::fault::{Layer, RecordFault};
 use record::kind::RecordKind;
 use record::meter::Meter;
 use std::test::Fail;
 
-// Two octets to change, whether to sign again, and the fault's number and place. Places count from the end of the
-// record, and a place behind the message changes nothing.
-const CASES: [([u8; 2], bool, u8, u8); 18] = [
-    ([0, 99], false, 21, 21),
-    ([1, 99], false, 21, 21),
-    ([20, 99], false, 21, 21),
-    ([21, 99], false, 21, 21),
-    ([24, 99], false, 21, 21),
-    ([13, 21], false, 21, 21),
-    ([1, 99], true, 22, 1),
-    ([4, 99], true, 22, 1),
-    ([5, 99], true, 22, 5),
-    ([8, 99], true, 22, 5),
-    ([9, 99], true, 22, 9),
-    ([12, 99], true, 22, 9),
-    ([13, 99], true, 23, 13),
-    ([16, 99], true, 23, 13),
-    ([5, 1], true, 22, 1),
-    ([9, 5], true, 22, 5),
-    ([13, 9], true, 22, 9),
-    ([17, 13], true, 23, 13),
+// Where to change octets, whether to sign again, and the fault's number and place. Places count from the end of the
+// record.
+const CASES: [(&[usize], bool, u8, u8); 18] = [
+    (&[0], false, 21, 21),
+    (&[1], false, 21, 21),
+    (&[20], false, 21, 21),
+    (&[21], false, 21, 21),
+    (&[24], false, 21, 21),
+    (&[13, 21], false, 21, 21),
+    (&[1], true, 22, 1),
+    (&[4], true, 22, 1),
+    (&[5], true, 22, 5),
+    (&[8], true, 22, 5),
+    (&[9], true, 22, 9),
+    (&[12], true, 22, 9),
+    (&[13], true, 23, 13),
+    (&[16], true, 23, 13),
+    (&[5, 1], true, 22, 1),
+    (&[9, 5], true, 22, 5),
+    (&[13, 9], true, 22, 9),
+    (&[17, 13], true, 23, 13),
 ];
 
-fn is_fault(fault: &MessageFault, number: u8, layer: Layer, place: usize) -> bool {
-    fault.number() == number && fault.layer() as u8 == layer as u8 && fault.place() == place
+// What a fault tells: its number, its layer and its place.
+fn told(fault: MessageFault) -> (u8, Layer, usize) {
+    (fault.number(), fault.layer(), fault.place())
 }
 
-// Does the message fail its checks with this number at this place?
-fn fails<K: RecordKind>(message: &[u8], number: u8, place: usize) -> bool {
-    match message::check::check::<K>(&parameters(), message) {
-        Ok(_) => false,
-        Err(fault) => is_fault(&fault, number, Layer::Message, place),
-    }
+// What the fault tells for which a message fails its checks.
+fn failure<K: RecordKind>(message: &[u8]) -> Option<(u8, Layer, usize)> {
+    check::<K>(&parameters(), message).err().map(told)
 }
 
-fn changed<K: RecordKind>(given: K, at: [u8; 2], again: bool, number: u8, place: u8) -> bool {
-    let mut buffer = [0; ROOM];
+fn changed<K: RecordKind>(given: K, places: &[usize], again: bool, number: u8, place: u8) -> bool {
+    let mut buffer = [0; LONGEST];
     let message = built(given, &mut buffer);
-    let size = K::octet_length();
-    for one in at {
-        flip(message, size + usize::from(one));
+    let size = K::LENGTH;
+    if let Some(behind) = message.get_mut(size..) {
+        flip(behind, places);
     }
     if again {
         sign(message);
     }
-    fails::<K>(message, number, size + usize::from(place))
+    failure::<K>(message) == Some((number, Layer::Message, size + usize::from(place)))
 }
 
 #[test]
 fn fields(rt: HostRuntime) {
-    let mut good = true;
-    for (at, again, number, place) in CASES {
-        good &= changed(METER, at, again, number, place);
-        good &= changed(Draw::Stop, at, again, number, place);
+    for (places, again, number, place) in CASES {
+        let meter = changed(METER, places, again, number, place);
+        let draw = changed(Draw::Stop, places, again, number, place);
+        assert!(rt; meter && draw, "{places:?} {again}: {meter} {draw}");
     }
-    assert!(rt; good);
 }
 
 // Do so many octets, signed again, fail for their number?
 fn cut<K: RecordKind>(given: K, length: usize) -> bool {
-    let mut buffer = [0; ROOM];
-    if length > ROOM || built(given, &mut buffer).len() == length {
+    let mut buffer = [0; LONGEST];
+    let whole = built(given, &mut buffer).len();
+    let Some(message) = buffer.get_mut(..length) else {
         return false;
-    }
-    let message = &mut buffer[0..length];
+    };
     sign(message);
-    fails::<K>(message, 21, 0) && matches!(read_record::<K>(message), Err(MessageFault::Length))
+    length != whole
+        && failure::<K>(message) == Some((21, Layer::Message, 0))
+        && read_record::<K>(message).err() == Some(MessageFault::Length)
 }
 
 #[test]
 fn lengths(rt: HostRuntime) {
-    let mut good = cut(METER, 34) & cut(Draw::Stop, 32);
-    for length in [0, 3, 25, 31, 33, 35, ROOM] {
-        good &= cut(METER, length);
-        good &= cut(Draw::Stop, length);
+    assert!(rt; cut(METER, 34) && cut(Draw::Stop, 32));
+    for length in [0, 3, 25, 31, 33, 35, LONGEST] {
+        assert!(rt; cut(METER, length) && cut(Draw::Stop, length), "{length}");
     }
-    assert!(rt; good);
 }
 
 // A bit of the flags that has no name is turned, and one of the monitoring number.
 #[test]
 fn flags_and_number(rt: HostRuntime) -> Result<(), Fail> {
-    let mut buffer = [0; ROOM];
+    let mut buffer = [0; LONGEST];
     let message = built(METER, &mut buffer);
-    flip(message, 7);
-    flip(message, 24);
+    flip(message, &[7, 24]);
     sign(message);
-    match message::check::check::<Meter>(&parameters(), message) {
-        Ok(said) => {
-            assert!(rt; said.monitoring_number == 0xFFFF_FFBF && said.flags.octet() == 5);
-            Ok(())
-        },
-        Err(_) => Err(Fail::new("the message fails")),
-    }
+    let said = check::<Meter>(&parameters(), message)?;
+    assert_eq!(rt; said.monitoring_number, 0xFFFF_FFBF);
+    assert_eq!(rt; u8::from(said.flags), 5);
+    Ok(())
 }
 
 // Does a response with these octets for its record, signed again, pass its checks and hold the record's own fault?
-fn carries<K: RecordKind>(given: K, octets: &[u8], cause: RecordCause, place: usize) -> bool {
-    let mut buffer = [0; ROOM];
+fn carries<K: RecordKind>(given: K, octets: &[u8], inner: RecordFault) -> bool {
+    let mut buffer = [0; LONGEST];
     let message = built(given, &mut buffer);
-    if octets.len() > message.len() {
+    let Some(record) = message.get_mut(..octets.len()) else {
         return false;
-    }
-    message[0..octets.len()].copy_from_slice(octets);
+    };
+    record.copy_from_slice(octets);
     sign(message);
-    if message::check::check::<K>(&parameters(), message).is_err() {
-        return false;
-    }
-    match read_record::<K>(message) {
-        Err(MessageFault::Record(inner)) => {
-            is_record_fault(&inner, cause, place)
-                && is_fault(&MessageFault::Record(inner), 25, Layer::Record, place)
-        }
-        _ => false,
-    }
+    let fault = MessageFault::Record(inner);
+    check::<K>(&parameters(), message).is_ok()
+        && read_record::<K>(message).err() == Some(fault)
+        && told(fault) == (25, Layer::Record, inner.place)
 }
 
 #[test]
 fn record_faults(rt: HostRuntime) {
-    let mut good = true;
     for (octets, cause, place) in BAD_METERS {
-        good &= refuses::<Meter>(&octets, cause, place);
-        good &= carries(METER, &octets, cause, place);
+        let fault = RecordFault { cause, place };
+        assert!(rt; refuses::<Meter>(&octets, fault), "{octets:?}");
+        assert!(rt; carries(METER, &octets, fault), "{octets:?}");
     }
     for (octets, cause, place) in BAD_DRAWS {
-        good &= refuses::<Draw>(&octets, cause, place);
-        good &= carries(Draw::Stop, &octets, cause, place);
+        let fault = RecordFault { cause, place };
+        assert!(rt; refuses::<Draw>(&octets, fault), "{octets:?}");
+        assert!(rt; carries(Draw::Stop, &octets, fault), "{octets:?}");
     }
-    assert!(rt; good);
 }

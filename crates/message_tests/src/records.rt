@@ -1,7 +1,7 @@
 // Records at their limits, octets of a wrong number, and records that are not written.
-use crate::common::{METER, is_filled, refuses};
+use crate::common::{BLANK, METER, is_blank, refuses};
 use record::draw::Draw;
-use record::fault::RecordCause;
+use record::fault::{RecordCause, RecordFault};
 use record::kind::RecordKind;
 use record::meter::Meter;
 use record::round_trip::reread;
@@ -29,60 +29,58 @@ const DRAWS: [(Draw, [u8; 9]); 5] = [
     (Draw::Preset(5e-324), [2, 1, 0, 0, 0, 0, 0, 0, 0]),
 ];
 
-// Does the record have these octets, and what comes back of it the same?
+// Does the record have these octets, and what comes back of it the same? Compared as values the two zeros are equal.
 fn comes_back<K: RecordKind>(given: K, octets: &[u8]) -> bool {
-    let mut out = [0xA5; 9];
-    let mut again = [0xA5; 9];
-    match reread(given, &mut out) {
-        Ok(read) => read.encode(&mut again).is_ok() && out.starts_with(octets) && again == out,
-        Err(_) => false,
-    }
+    let mut out = [BLANK; 9];
+    let mut again = [BLANK; 9];
+    let Ok(read) = reread(given, &mut out) else {
+        return false;
+    };
+    read.encode(&mut again).is_ok() && out.starts_with(octets) && again == out
 }
 
 #[test]
 fn limits(rt: HostRuntime) {
-    let mut good = true;
     for (pulses, centidegrees, valid, octets) in METERS {
         let given = Meter {
             pulses,
             centidegrees,
             valid,
         };
-        good &= comes_back(given, &octets);
+        assert!(rt; comes_back(given, &octets), "{given:?}");
     }
     for (given, octets) in DRAWS {
-        good &= comes_back(given, &octets);
+        assert!(rt; comes_back(given, &octets), "{given:?}");
     }
-    assert!(rt; good);
 }
 
 #[test]
 fn numbers_of_octets(rt: HostRuntime) {
     let zeros = [0; 16];
-    let mut good = true;
+    let fault = RecordFault {
+        cause: RecordCause::Length,
+        place: 0,
+    };
     for length in 0..17 {
-        good &= refuses::<Meter>(&zeros[0..length], RecordCause::Length, 0) == (length != 7);
-        good &= refuses::<Draw>(&zeros[0..length], RecordCause::Length, 0) == (length != 9);
+        let octets = &zeros[..length];
+        assert_eq!(rt; refuses::<Meter>(octets, fault), length != 7, "{length}");
+        assert_eq!(rt; refuses::<Draw>(octets, fault), length != 9, "{length}");
     }
-    assert!(rt; good);
 }
 
 // Is the record refused by this number, and a slice of so many octets left?
 fn is_refused<K: RecordKind>(given: K, room: usize, number: Option<u8>) -> bool {
-    let mut all = [0xA5; 9];
-    if room > 9 {
+    let mut all = [BLANK; 9];
+    let Some(out) = all.get_mut(..room) else {
         return false;
-    }
-    let out = &mut all[0..room];
-    match given.encode(out) {
-        Ok(()) => false,
-        Err(refusal) => refusal.number() == number && is_filled(out, 0xA5),
-    }
+    };
+    let told = given.encode(out).err().map(|refusal| refusal.number());
+    told == Some(number) && is_blank(out)
 }
 
 #[test]
 fn not_written(rt: HostRuntime) {
-    let mut good = is_refused(METER, 6, None);
+    assert!(rt; is_refused(METER, 6, None));
     for (given, room, number) in [
         (Draw::Stop, 0, None),
         (Draw::Stop, 8, None),
@@ -91,7 +89,6 @@ fn not_written(rt: HostRuntime) {
         (Draw::Run(f64::NAN), 9, Some(8)),
         (Draw::Preset(f64::NEG_INFINITY), 9, Some(8)),
     ] {
-        good &= is_refused(given, room, number);
+        assert!(rt; is_refused(given, room, number), "{given:?} in {room}");
     }
-    assert!(rt; good);
 }

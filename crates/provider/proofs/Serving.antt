@@ -74,5 +74,5 @@ module _ {R : Type 0} (f : Format R) (laws : Lawful f) (p : Parameters) (memory 
       let few = laws.few in
       let fits = sends (response_octets f p a) (omega arith) (omega arith) in
       let whole = subst (λ m. Placed Down m mid l (Err x)) (built_message f laws p a t b end built_ok built_is) put in
-      let is_full : Err x ≡ Err Full = ⊎_elim (λ e. let z : ◌≡◌ {A = ℕ} 0 1 = cc in absurd (omega arith)) (λ e. e) (whole.put fits).answers in
+      let is_full : Err x ≡ Err Full = ⊎_elim (λ e. cc) (λ e. e) (whole.put fits).answers in
       so false (Err LaneFull) (subst (λ y. Placed Down (take (end - 0) b) mid l y) is_full put) refl

@@ -1,5 +1,6 @@
 -- What a serve answers, sends and remembers.
 use Rattle.std.specs.Prelude.{ℕ, Bool, false, cond, ◌&&◌, Some, None, Ok, Err, Option, Result, ◌==◌}
+use Rattle.carrier.specs.declared.lane.FetchRefusal.{FetchRefusal}
 use Rattle.carrier.specs.Fetch.{Brought}
 use Rattle.message.specs.declared.flags.ResponseFlags.{ResponseFlags}
 use Rattle.message.specs.declared.request.Request.{Request}
@@ -18,6 +19,10 @@ serve_number ShortBuffer = 7
 serve_number UnsoundRecord = 8
 serve_number NotARequest = 11
 serve_number Full = 10
+
+-- a refusal to fetch, as one to serve
+abbrev pub refused_fetching : FetchRefusal → ServeRefusal
+refused_fetching FetchRefusal.ShortBuffer = ShortBuffer
 
 -- a refusal to build, as one to serve
 abbrev pub refused_building : BuildRefusal → ServeRefusal

@@ -1,11 +1,12 @@
 ghost use Rattle.std.specs.Prelude.{◌≡◌};
-ghost use Rattle.provider.specs.Serve.{serve_number, refused_building};
+ghost use Rattle.provider.specs.Serve.{serve_number, refused_fetching, refused_building};
 
+use carrier::lane::FetchRefusal;
 use message::request::Request;
 use message::response::BuildRefusal;
 
 // What a serve did.
-#[derive(Clone, Copy)]
+#[derive(Clone, Copy, Debug, PartialEq, Eq)]
 pub enum ServeAnswer {
     // there was no request
     Idle,
@@ -16,7 +17,7 @@ pub enum ServeAnswer {
 }
 
 // Why a serve did not answer.
-#[derive(Clone, Copy)]
+#[derive(Clone, Copy, Debug, PartialEq, Eq)]
 pub enum ServeRefusal {
     // the buffer has under 1,525 octets
     ShortBuffer,
@@ -29,6 +30,7 @@ pub enum ServeRefusal {
 }
 
 impl ServeRefusal {
+    // The number that the rules of the link give it.
     pub fn number(&self) -> u8
         ensures { result ≡ serve_number self.now }
     {
@@ -37,6 +39,16 @@ impl ServeRefusal {
             ServeRefusal::UnsoundRecord => 8,
             ServeRefusal::NotARequest => 11,
             ServeRefusal::Full => 10,
+        }
+    }
+}
+
+impl From<FetchRefusal> for ServeRefusal {
+    ghost from_gives = { λ e r. r ≡ refused_fetching e };
+
+    fn from(e: FetchRefusal) -> ServeRefusal {
+        match e {
+            FetchRefusal::ShortBuffer => ServeRefusal::ShortBuffer,
         }
     }
 }

@@ -50,22 +50,18 @@ impl<K: RecordKind> Provider<K> {
             monitoring_number: request.monitoring_number,
         };
         match self.memory {
-            Some(last) => {
+            Some(last)
                 if last.safety_data.is_sound()
                     && last.consumer_id == request.consumer_id
-                    && last.monitoring_number == request.monitoring_number
-                {
-                    (last, ServeAnswer::Again(request))
-                } else {
-                    (new, ServeAnswer::New(request))
-                }
+                    && last.monitoring_number == request.monitoring_number => {
+                (last, ServeAnswer::Again(request))
             }
-            None => (new, ServeAnswer::New(request)),
+            _ => (new, ServeAnswer::New(request)),
         }
     }
 
     // Fetches once from the up lane and answers a request: what went out last goes out again to the same request, else
-    // the given record and flags.
+    // the given record and flags. The two stay apart: no call can swap them, and each would have to write a struct's name.
     pub fn serve<C: Carrier>(
         &mut self,
         carrier: &mut C,
@@ -84,10 +80,8 @@ impl<K: RecordKind> Provider<K> {
         if !given.is_sound() {
             return Err(ServeRefusal::UnsoundRecord);
         }
-        let size = match carrier.fetch(Lane::Up, buffer) {
-            Ok(Some(size)) => size,
-            Ok(None) => return Ok(ServeAnswer::Idle),
-            Err(_) => return Err(ServeRefusal::ShortBuffer),
+        let Some(size) = carrier.fetch(Lane::Up, buffer)? else {
+            return Ok(ServeAnswer::Idle);
         };
         let Some(request) = Request::read(&buffer[0..size]) else {
             return Err(ServeRefusal::NotARequest);
@@ -95,6 +89,7 @@ impl<K: RecordKind> Provider<K> {
         let (response, told) = self.respond(given, flags, request);
         self.memory = Some(response);
         let end = response.build(&self.parameters, buffer)?;
+        // a match: a response has a lawful length, so what refuses it is a full lane, whatever the refusal says
         match carrier.place(Lane::Down, &buffer[0..end]) {
             Ok(()) => Ok(told),
             Err(_) => Err(ServeRefusal::Full),

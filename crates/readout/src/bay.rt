@@ -43,11 +43,7 @@ pub fn ask(parameters: &Parameters) -> Request {
     Request {
         consumer_id: parameters.consumer_id,
         monitoring_number: 1000,
-        flags: RequestFlags {
-            communication_error: false,
-            operator_ack_requested: false,
-            fsv_activated: false,
-        },
+        flags: RequestFlags::default(),
     }
 }
 

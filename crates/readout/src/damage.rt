@@ -5,7 +5,7 @@ ghost use Rattle.signature.specs.Signature.{signature};
 
 use crate::bay::judge;
 use crate::exchange::Exchange;
-use crate::layout::{LENGTH, SIGNED, field_at};
+use crate::layout::{Field, LENGTH, RESPONSE, SIGNED};
 use crate::outcome::{Outcome, Tally};
 use signature::signature;
 use std::io;
@@ -38,38 +38,57 @@ fn try_message(exchange: &Exchange, message: [u8; LENGTH], tally: &mut Tally) ->
     outcome
 }
 
+// What became of the responses that were damaged, as they are and signed again.
+#[derive(Clone, Copy, Default)]
+struct Tallies {
+    plain: Tally,
+    resigned: Tally,
+}
+
+// Damages each octet of a field in turn.
+fn show_field(
+    rt: &HostRuntime,
+    exchange: &Exchange,
+    field: &Field,
+    tallies: &mut Tallies,
+) -> io::Result<()> {
+    let name = field.name;
+    for place in field.first..=field.last {
+        let damaged = flipped(exchange.message, place);
+        let outcome = try_message(exchange, damaged, &mut tallies.plain);
+        print!(rt; "   {place:>5}  {name:<19}  {outcome}")?;
+        if place < SIGNED {
+            let outcome = try_message(exchange, signed(damaged), &mut tallies.resigned);
+            print!(rt; "  {outcome}")?;
+        }
+        println!(rt)?;
+    }
+    Ok(())
+}
+
 pub fn show(rt: &HostRuntime, exchange: &Exchange) -> io::Result<()> {
-    let mut plain = Tally::NONE;
-    let mut resigned = Tally::NONE;
     println!(rt;
         "\n5. The damage: the lowest bit of one octet is flipped, one octet after the other\n   A refusal tells its number, the layer that found the fault and the octet where the field begins.\n   21 length or signature, 22 identity, 23 consumer id, 24 monitoring number, 25 record\n   octet  field                as it is                        signed again over the damage"
     )?;
-    for place in 0..LENGTH {
-        let name = field_at(place).name;
-        let damaged = flipped(exchange.message, place);
-        print!(rt; "   {place:>5}  {name:<19}  ")?;
-        try_message(exchange, damaged, &mut plain).show(rt)?;
-        if place < SIGNED {
-            print!(rt; "  ")?;
-            try_message(exchange, signed(damaged), &mut resigned).show(rt)?;
-        }
-        println!(rt; "")?;
+    let mut tallies = Tallies::default();
+    for field in &RESPONSE[..] {
+        show_field(rt, exchange, field, &mut tallies)?;
     }
-    show_tallies(rt, plain, resigned)
+    show_tallies(rt, tallies)
 }
 
 // The counts of each outcome.
-fn show_tallies(rt: &HostRuntime, plain: Tally, resigned: Tally) -> io::Result<()> {
+fn show_tallies(rt: &HostRuntime, tallies: Tallies) -> io::Result<()> {
     let Tally {
         refused,
         foreign,
         accepted,
-    } = resigned;
+    } = tallies.resigned;
     println!(rt;
         "   A foreign monitoring number passes check and read_record and is told apart only by the consumer,\n   which compares it with its own request.\n"
     )?;
     println!(rt;
         "{LENGTH} octets damaged: as they are {} refused; signed again {refused} refused by a check, {foreign} by the consumer, {accepted} accepted",
-        plain.refused
+        tallies.plain.refused
     )
 }

@@ -1,9 +1,17 @@
-// A field of a message: its name, its first octet and its last.
+ghost use Rattle.std.specs.Prelude.{◌<◌};
+
+// How many octets a response has, and how many of them are signed.
+pub const LENGTH: usize = 32;
+
+pub const SIGNED: usize = 28;
+
+// A field of a message: its name, its first octet and its last. No message here is longer than a response.
 #[derive(Clone, Copy)]
 pub struct Field {
     pub name: &'static str,
     pub first: usize,
     pub last: usize,
+    ghost inside: { last < 32 },
 }
 
 // A request.
@@ -86,23 +94,16 @@ pub const SIGNATURE: Field = Field {
     last: 31,
 };
 
-// How many octets a response has, and how many of them are signed.
-pub const LENGTH: usize = 32;
-
-pub const SIGNED: usize = 28;
-
-// The field of a response that an octet belongs to.
-pub fn field_at(octet: usize) -> Field {
-    match octet {
-        0..=3 => PULSES,
-        4..=5 => TEMPERATURE,
-        6 => VALID,
-        7 => FLAGS,
-        8..=11 => IDENTITY_1,
-        12..=15 => IDENTITY_2,
-        16..=19 => IDENTITY_3,
-        20..=23 => CONSUMER_ID,
-        24..=27 => NUMBER,
-        _ => SIGNATURE,
-    }
-}
+// A response from its first octet to its last.
+pub const RESPONSE: [Field; 10] = [
+    PULSES,
+    TEMPERATURE,
+    VALID,
+    FLAGS,
+    IDENTITY_1,
+    IDENTITY_2,
+    IDENTITY_3,
+    CONSUMER_ID,
+    NUMBER,
+    SIGNATURE,
+];

@@ -5,7 +5,7 @@ use std::io;
 
 // The parameters that both ends of the link are made with. It is proved that none passes its limit.
 pub fn parameters() -> Parameters {
-    let made = Parameters::new(Settings {
+    let settings = Settings {
         consumer_id: 0x0A0B_0C0D,
         provider_id: 0xE0EA_6B40,
         base_id: BaseId::new(0x7296_2B91, 0x4AE6_FA75, 0x04B4_288D, 0x63AF_7DDC),
@@ -13,8 +13,8 @@ pub fn parameters() -> Parameters {
         timeout: 500,
         error_interval: 60,
         operator_ack_necessary: true,
-    });
-    made.unwrap()
+    };
+    Parameters::new(settings).unwrap()
 }
 
 pub fn show(rt: &HostRuntime, parameters: &Parameters) -> io::Result<()> {
@@ -39,8 +39,7 @@ pub fn show(rt: &HostRuntime, parameters: &Parameters) -> io::Result<()> {
         ),
     ];
     for (name, value) in lines {
-        print!(rt; "   {name:<21}  ")?;
-        value.show(rt)?;
+        println!(rt; "   {name:<21}  {value}")?;
     }
     Ok(())
 }

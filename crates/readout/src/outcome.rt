@@ -1,8 +1,7 @@
 use crate::bay::{Refusal, Shown};
 use message::fault::MessageFault;
-use record::fault::Layer;
 use record::meter::Meter;
-use std::io;
+use std::fmt;
 
 // What becomes of a damaged response.
 #[derive(Clone, Copy)]
@@ -14,14 +13,6 @@ pub enum Outcome {
     Temperature(i16),
     Validity(bool),
     Flags(u8),
-}
-
-fn layer_name(layer: Layer) -> &'static str {
-    match layer {
-        Layer::Message => "message",
-        Layer::Cycle => "cycle",
-        Layer::Record => "record",
-    }
 }
 
 impl Outcome {
@@ -38,40 +29,39 @@ impl Outcome {
                 } else if reading.valid != sent.valid {
                     Outcome::Validity(reading.valid)
                 } else {
-                    Outcome::Flags(flags.octet())
+                    Outcome::Flags(u8::from(flags))
                 }
             }
         }
     }
+}
 
-    // Writes the outcome in words.
-    pub fn show(self, rt: &HostRuntime) -> io::Result<()> {
+impl fmt::Display for Outcome {
+    fn fmt<W: fmt::Write>(&self, f: &mut fmt::Formatter<W>) -> fmt::Result {
         match self {
-            Outcome::Refused(fault) => {
-                let layer = layer_name(fault.layer());
-                print!(rt;
-                    "refused: {}, {layer}, octet {}",
-                    fault.number(),
-                    fault.place()
-                )
-            }
-            Outcome::Foreign(number) => {
-                print!(rt;
-                    "{number} passes check and read_record; the consumer refuses the number: 24"
-                )
-            }
-            Outcome::Count(pulses) => print!(rt; "accepted with another count: {pulses}"),
-            Outcome::Temperature(hundredths) => print!(rt;
-                "accepted with another temperature: {hundredths}"
+            Outcome::Refused(fault) => write!(
+                f,
+                "refused: {}, {}, octet {}",
+                fault.number(),
+                fault.layer(),
+                fault.place()
             ),
-            Outcome::Validity(valid) => print!(rt; "accepted with another validity: {valid}"),
-            Outcome::Flags(octet) => print!(rt; "accepted with other flags: {octet:03b}"),
+            Outcome::Foreign(number) => write!(
+                f,
+                "{number} passes check and read_record; the consumer refuses the number: 24"
+            ),
+            Outcome::Count(pulses) => write!(f, "accepted with another count: {pulses}"),
+            Outcome::Temperature(hundredths) => {
+                write!(f, "accepted with another temperature: {hundredths}")
+            }
+            Outcome::Validity(valid) => write!(f, "accepted with another validity: {valid}"),
+            Outcome::Flags(octet) => write!(f, "accepted with other flags: {octet:03b}"),
         }
     }
 }
 
 // How many responses were refused by a check, how many by the consumer for their number, and how many accepted.
-#[derive(Clone, Copy)]
+#[derive(Clone, Copy, Default)]
 pub struct Tally {
     pub refused: u32,
     pub foreign: u32,
@@ -79,12 +69,6 @@ pub struct Tally {
 }
 
 impl Tally {
-    pub const NONE: Tally = Tally {
-        refused: 0,
-        foreign: 0,
-        accepted: 0,
-    };
-
     pub fn add(&mut self, outcome: Outcome) {
         match outcome {
             Outcome::Refused(_) => self.refused = self.refused.saturating_add(1),

@@ -1,6 +1,6 @@
 use crate::layout::Field;
 use crate::value::Value;
-use std::io;
+use std::{fmt, io};
 
 // A field of a message, and what it says.
 #[derive(Clone, Copy)]
@@ -9,24 +9,34 @@ pub struct Row {
     pub value: Value,
 }
 
-// At most four octets in hexadecimal, and spaces for those that there are not.
-fn show_octets(rt: &HostRuntime, octets: &[u8]) -> io::Result<()> {
-    for octet in octets {
-        print!(rt; "{octet:02X} ")?;
+// At most four octets in hexadecimal, and spaces for those that there are not. The padding, and the space behind each octet,
+// are this table's own: other programs print octets in other forms.
+#[derive(Clone, Copy)]
+struct Octets<'a>(&'a [u8]);
+
+impl fmt::Display for Octets<'_> {
+    fn fmt<W: fmt::Write>(&self, f: &mut fmt::Formatter<W>) -> fmt::Result {
+        for octet in self.0 {
+            write!(f, "{octet:02X} ")?;
+        }
+        for _ in self.0.len()..4 {
+            write!(f, "   ")?;
+        }
+        Ok(())
     }
-    for _ in octets.len()..4 {
-        print!(rt; "   ")?;
-    }
-    Ok(())
 }
 
 // Fields of a message: the first octet of each, its name, its octets and what they say.
 pub fn show_rows(rt: &HostRuntime, message: &[u8], rows: &[Row]) -> io::Result<()> {
-    for row in rows {
-        let Field { name, first, last } = row.field;
-        print!(rt; "   {first:>5}  {name:<19}  ")?;
-        show_octets(rt, message.get(first..=last).unwrap_or(&[]))?;
-        row.value.show(rt)?;
+    for Row { field, value } in rows {
+        let Field {
+            name,
+            first,
+            last,
+            ..
+        } = *field;
+        let octets = Octets(message.get(first..=last).unwrap_or(&[]));
+        println!(rt; "   {first:>5}  {name:<19}  {octets}{value}")?;
     }
     Ok(())
 }

@@ -1,5 +1,3 @@
-ghost use Rattle.std.specs.Prelude.{◌≡◌, T};
-
 use crate::exchange::Exchange;
 use crate::layout;
 use crate::layout::{LENGTH, SIGNED};
@@ -20,12 +18,6 @@ pub const READING: Meter = Meter {
     centidegrees: -5,
     valid: true,
 };
-
-fn is_same(a: Meter, b: Meter) -> bool
-    ensures { T result → a ≡ b }
-{
-    a.pulses == b.pulses && a.centidegrees == b.centidegrees && a.valid == b.valid
-}
 
 // The three fields of a record.
 fn record_rows(reading: Meter) -> [Row; 3] {
@@ -48,7 +40,7 @@ fn record_rows(reading: Meter) -> [Row; 3] {
 pub fn show_reading(rt: &HostRuntime) -> io::Result<()> {
     let mut octets = [0; 7];
     let back = reread(READING, &mut octets).unwrap();
-    let comparison = if is_same(back, READING) {
+    let comparison = if back == READING {
         "the same reading"
     } else {
         "another reading"
@@ -64,19 +56,13 @@ pub fn show_reading(rt: &HostRuntime) -> io::Result<()> {
 pub fn answer(parameters: &Parameters, request: &Request) -> [u8; LENGTH] {
     let response = Response {
         safety_data: READING,
-        flags: ResponseFlags {
-            operator_ack_provider: false,
-            activate_fsv: false,
-            test_mode_activated: false,
-        },
+        flags: ResponseFlags::default(),
         consumer_id: request.consumer_id,
         monitoring_number: request.monitoring_number,
     };
     let mut buffer = [0; LONGEST];
     let end = response.build(parameters, &mut buffer).unwrap();
-    let mut message = [0; LENGTH];
-    message.copy_from_slice(&buffer[0..end]);
-    message
+    buffer[0..end].try_into().unwrap()
 }
 
 // The fields behind the record.

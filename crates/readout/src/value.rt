@@ -1,4 +1,4 @@
-use std::io;
+use std::fmt;
 
 // What a field says.
 #[derive(Clone, Copy)]
@@ -13,19 +13,20 @@ pub enum Value {
     Answered(u8),
 }
 
-impl Value {
-    // Writes the value at the end of a line.
-    pub fn show(self, rt: &HostRuntime) -> io::Result<()> {
+impl fmt::Display for Value {
+    fn fmt<W: fmt::Write>(&self, f: &mut fmt::Formatter<W>) -> fmt::Result {
         match self {
-            Value::Pulses(pulses) => println!(rt; "{pulses} pulses"),
-            Value::Centidegrees(hundredths) => println!(rt; "{hundredths} hundredths of a degree"),
-            Value::Truth(truth) => println!(rt; "{truth}"),
-            Value::Identifier(word) => println!(rt; "0x{word:08X}"),
-            Value::Number(number) => println!(rt; "{number}"),
-            Value::Asked(flags) => println!(rt;
+            Value::Pulses(pulses) => write!(f, "{pulses} pulses"),
+            Value::Centidegrees(hundredths) => write!(f, "{hundredths} hundredths of a degree"),
+            Value::Truth(truth) => write!(f, "{truth}"),
+            Value::Identifier(word) => write!(f, "0x{word:08X}"),
+            Value::Number(number) => write!(f, "{number}"),
+            Value::Asked(flags) => write!(
+                f,
                 "{flags:03b}: substitute shown, acknowledgment requested, error"
             ),
-            Value::Answered(flags) => println!(rt;
+            Value::Answered(flags) => write!(
+                f,
                 "{flags:03b}: test mode, substitute, acknowledgment"
             ),
         }

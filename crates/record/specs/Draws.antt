@@ -1,11 +1,11 @@
 -- The draw record: a tag octet and a Double, nine octets in all.
-use Rattle.std.specs.Prelude.{ℕ, Bool, true, cond, ◌&&◌, List, ◌∷◌, ◌++◌, length, take, drop, Some, None, Ok, Err, Option, Result, ◌==◌, from_bits, nat_lt, slice_index, to_bits, Float}
+use Rattle.std.specs.Prelude.{ℕ, Bool, true, cond, ◌&&◌, List, ◌∷◌, take, drop, Some, None, Ok, Err, Option, Result, ◌==◌, from_bits, nat_lt, slice_index, to_bits, Float}
 use Rattle.std.specs.Float.Ieee.{fits}
 use Rattle.std.specs.Float.{float_is_finite, binary64}
 use Rattle.record.specs.declared.draw.Draw.{Draw}
 use Rattle.record.specs.declared.draw.Draw.TheVariants.{Stop, Run, Preset}
 use Rattle.record.specs.declared.fault.EncodeRefusal.{EncodeRefusal}
-use Rattle.record.specs.declared.fault.EncodeRefusal.TheVariants.{Short, Unsound}
+use Rattle.record.specs.declared.fault.EncodeRefusal.TheVariants.{Unsound}
 use Rattle.record.specs.declared.fault.RecordCause.TheVariants.{Tag, NotFinite, NotZero}
 use Rattle.record.specs.declared.fault.RecordFault.{RecordFault}
 use Rattle.record.specs.Calls.{fault}
@@ -58,10 +58,10 @@ draw_format = record {
   substitute = Stop;
 }
 
--- a tag and a number written at the start of a slice
-abbrev pub number_answer : Float → List ℕ → Result Unit EncodeRefusal
-number_answer x out = cond (nat_lt (length out) 9) (Err Short) (cond (number_sound x) (Ok tt) (Err Unsound))
+-- a tag and a number written, where the number is sound
+abbrev pub number_written : ℕ → Float → Result (List ℕ) EncodeRefusal
+number_written tag x = cond (number_sound x) (Ok (number_octets tag x)) (Err Unsound)
 
-abbrev pub number_encoded : ℕ → Float → List ℕ → List ℕ
-number_encoded tag x out =
-    cond (nat_lt (length out) 9) out (cond (number_sound x) (number_octets tag x ++ drop 9 out) out)
+-- a sound record written
+abbrev pub draw_written : Draw → Result (List ℕ) EncodeRefusal
+draw_written d = cond (draw_sound d) (Ok (draw_octets d)) (Err Unsound)

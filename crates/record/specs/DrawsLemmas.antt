@@ -17,7 +17,7 @@ use Rattle.record.specs.Results.{ok_past, ok_at, ok_is}
 
 finite_no_nan : (x : Float) → float_is_finite x ≡ true → T (not (is_nan x))
 unfolding float_is_finite is_nan
-finite_no_nan nan h = let z : ◌≡◌ {A = ℕ} 0 1 = cc in absurd (omega arith)
+finite_no_nan nan h = absurd (cc)
 finite_no_nan (inf s) h = tt
 finite_no_nan (fin s m e) h = tt
 
@@ -25,7 +25,7 @@ nan_not_finite : (x : Float) → is_nan x ≡ true → float_is_finite x ≡ fal
 unfolding float_is_finite is_nan
 nan_not_finite nan h = refl
 nan_not_finite (inf s) h = refl
-nan_not_finite (fin s m e) h = let z : ◌≡◌ {A = ℕ} 0 1 = cc in absurd (omega arith)
+nan_not_finite (fin s m e) h = absurd (cc)
 
 -- the bits of a NaN are not read
 pub nan_unread : (bits : ℕ) → 0x7FF0000000000000 < bits % 0x8000000000000000 → double_read bits ≡ None
@@ -41,7 +41,7 @@ no_nan bits h =
 
 and_true : (a b : Bool) → (a && b) ≡ true → (a ≡ true) × (b ≡ true)
 and_true true b h = (refl, h)
-and_true false b h = let z : ◌≡◌ {A = ℕ} 0 1 = cc in absurd (omega arith)
+and_true false b h = absurd (cc)
 
 number_back : (x : Float) → number_sound x ≡ true → double_read (un (le 8 (to_bits binary64 x))) ≡ Some x
 number_back x h =
@@ -70,7 +70,7 @@ small (Preset x) h = (lit< tt, octets_le 8 (to_bits binary64 x))
 finite_read : (b : Bool) (tag : ℕ) (x : Float) (d : Draw) → with_number tag (cond b (Some x) None) ≡ Ok d
     → (b ≡ true) × (cond (tag == 1) (Run x) (Preset x) ≡ d)
 finite_read true tag x d h = (refl, cc)
-finite_read false tag x d h = let z : ◌≡◌ {A = ℕ} 0 1 = cc in absurd (omega arith)
+finite_read false tag x d h = absurd (cc)
 
 -- the record's octets are the tag and the bits, and it is sound
 pub record Written (tag bits : ℕ) (d : Draw) : Type 0 where

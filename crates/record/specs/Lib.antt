@@ -1,6 +1,7 @@
 pub mod Octets
 pub mod Kind
 pub mod Calls
+pub mod Names
 pub mod Numbers
 pub mod Meters
 pub mod Draws

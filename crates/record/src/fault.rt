@@ -1,17 +1,35 @@
 ghost use Rattle.std.specs.Prelude.{◌≡◌, Some, None};
 ghost use Rattle.record.specs.declared.fault.Layer.{Layer};
+ghost use Rattle.std.specs.Fmt.{padded};
+ghost use Rattle.record.specs.Names.{layer_text};
 ghost use Rattle.record.specs.Numbers.{encode_number};
 
+use std::fmt;
+
 // Which part of the link found a fault.
-#[derive(Clone, Copy)]
+#[derive(Clone, Copy, Debug, PartialEq, Eq)]
 pub enum Layer {
     Message,
     Cycle,
     Record,
 }
 
+impl fmt::Display for Layer {
+    ghost output = { λ layer. Some (layer_text layer) };
+
+    ghost styled_output = { λ layer spec. Some (padded spec (layer_text layer)) };
+
+    fn fmt<W: fmt::Write>(&self, f: &mut fmt::Formatter<W>) -> fmt::Result {
+        f.pad(match self {
+            Self::Message => "message",
+            Self::Cycle => "cycle",
+            Self::Record => "record",
+        })
+    }
+}
+
 // Why octets are no record.
-#[derive(Clone, Copy)]
+#[derive(Clone, Copy, Debug, PartialEq, Eq)]
 pub enum RecordCause {
     // there are not as many octets as the kind has
     Length,
@@ -26,13 +44,14 @@ pub enum RecordCause {
 }
 
 // What is wrong with the octets of a record, and at which of them the offending field begins.
-#[derive(Clone, Copy)]
+#[derive(Clone, Copy, Debug, PartialEq, Eq)]
 pub struct RecordFault {
     pub cause: RecordCause,
     pub place: usize,
 }
 
 impl RecordFault {
+    // The number that the rules of the link give it.
     pub fn number(&self) -> u8
         ensures { result ≡ 25 }
     {
@@ -53,7 +72,7 @@ impl RecordFault {
 }
 
 // Why a record was not written.
-#[derive(Clone, Copy)]
+#[derive(Clone, Copy, Debug, PartialEq, Eq)]
 pub enum EncodeRefusal {
     // the slice has no room for the octets of a record
     Short,

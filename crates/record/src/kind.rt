@@ -1,24 +1,22 @@
-ghost use Rattle.std.specs.Prelude.{◌≡◌};
+ghost use Rattle.std.specs.Prelude.{◌≡◌, ℕ};
 ghost use Rattle.record.specs.Kind.{Format, Lawful};
 ghost use Rattle.record.specs.Calls.{encode_answer, encoded, decoded};
 
 use crate::fault::{EncodeRefusal, RecordFault};
 
-// A record kind: the type of its records, and their octets. The format says what the kind means, and the law what
-// every kind keeps. A clause cannot read a constant, so beside each stands a function that generic code calls.
+// A record kind: the type of its records, and their octets. The format says what the kind means, and the laws what every
+// kind keeps. A clause reads a constant by the ghost member of its name.
 pub trait RecordKind: Copy {
     // how many octets a record has
     const LENGTH: usize;
     // the number by which both ends know that they speak of the same kind
     const STRUCTURE_SIGNATURE: u32;
 
+    ghost LENGTH: { ℕ };
+
+    ghost STRUCTURE_SIGNATURE: { ℕ };
+
     ghost format: { Format Self };
-
-    fn octet_length() -> usize
-        ensures { result ≡ format.len };
-
-    fn structure() -> u32
-        ensures { result ≡ format.structure };
 
     // The record that is shown where there is no process value to show.
     fn substitute() -> Self
@@ -38,4 +36,8 @@ pub trait RecordKind: Copy {
         ensures { result ≡ decoded format octets.now };
 
     ghost lawful: { Lawful format };
+
+    ghost length_is: { LENGTH ≡ format.len };
+
+    ghost structure_is: { STRUCTURE_SIGNATURE ≡ format.structure };
 }

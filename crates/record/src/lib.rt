@@ -5,4 +5,5 @@ pub mod draw;
 pub mod fault;
 pub mod kind;
 pub mod meter;
+pub mod octets;
 pub mod round_trip;

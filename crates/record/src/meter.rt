@@ -1,12 +1,13 @@
-ghost use Rattle.std.specs.Prelude.{◌≡◌, true};
+ghost use Rattle.std.specs.Prelude.{◌≡◌, refl, true};
 ghost use Rattle.record.specs.Meters.{fields_fit, meter_format};
 ghost use Rattle.record.specs.MetersLemmas.{meter_lawful};
 
 use crate::fault::{EncodeRefusal, RecordCause, RecordFault};
 use crate::kind::RecordKind;
+use crate::octets::whole;
 
 // What a meter tells: the pulses counted, the temperature in hundredths of a degree Celsius, and whether both are valid.
-#[derive(Clone, Copy)]
+#[derive(Clone, Copy, Debug, PartialEq, Eq)]
 pub struct Meter {
     pub pulses: u32,
     pub centidegrees: i16,
@@ -26,17 +27,17 @@ impl RecordKind for Meter {
 
     const STRUCTURE_SIGNATURE: u32 = 0x4D45_5452;
 
+    ghost LENGTH = { meter_format.len };
+
+    ghost STRUCTURE_SIGNATURE = { meter_format.structure };
+
     ghost format = { meter_format };
 
     ghost lawful = { meter_lawful };
 
-    fn octet_length() -> usize {
-        Self::LENGTH
-    }
+    ghost length_is = { refl };
 
-    fn structure() -> u32 {
-        Self::STRUCTURE_SIGNATURE
-    }
+    ghost structure_is = { refl };
 
     fn substitute() -> Meter {
         Meter {
@@ -55,24 +56,16 @@ impl RecordKind for Meter {
     }
 
     fn encode(&self, out: &mut [u8]) -> Result<(), EncodeRefusal> {
-        if out.len() < Self::LENGTH {
-            return Err(EncodeRefusal::Short);
-        }
         let meter = *self;
-        let p = meter.pulses.to_le_bytes();
-        let c = meter.centidegrees.to_le_bytes();
-        out[0..7].copy_from_slice(&[p[0], p[1], p[2], p[3], c[0], c[1], u8::from(meter.valid)]);
+        let out = out.first_chunk_mut().ok_or(EncodeRefusal::Short)?;
+        let [p0, p1, p2, p3] = meter.pulses.to_le_bytes();
+        let [c0, c1] = meter.centidegrees.to_le_bytes();
+        *out = [p0, p1, p2, p3, c0, c1, u8::from(meter.valid)];
         Ok(())
     }
 
     fn decode(octets: &[u8]) -> Result<Meter, RecordFault> {
-        if octets.len() != Self::LENGTH {
-            return Err(RecordFault {
-                cause: RecordCause::Length,
-                place: 0,
-            });
-        }
-        let valid = octets[6];
+        let [p0, p1, p2, p3, c0, c1, valid] = *whole::<7>(octets)?;
         if valid > 1 {
             return Err(RecordFault {
                 cause: RecordCause::Boolean,
@@ -80,8 +73,8 @@ impl RecordKind for Meter {
             });
         }
         Ok(Meter {
-            pulses: u32::from_le_bytes([octets[0], octets[1], octets[2], octets[3]]),
-            centidegrees: i16::from_le_bytes([octets[4], octets[5]]),
+            pulses: u32::from_le_bytes([p0, p1, p2, p3]),
+            centidegrees: i16::from_le_bytes([c0, c1]),
             valid: valid == 1,
         })
     }

@@ -7,7 +7,7 @@ use crate::fault::{EncodeRefusal, RecordFault};
 use crate::kind::RecordKind;
 
 // Why a record did not go into octets and back, or octets into a record and back.
-#[derive(Clone, Copy)]
+#[derive(Clone, Copy, Debug, PartialEq, Eq)]
 pub enum TripFault {
     Encode(EncodeRefusal),
     Decode(RecordFault),
@@ -47,12 +47,12 @@ pub fn reread<K: RecordKind>(given: K, out: &mut [u8]) -> Result<K, TripFault>
     ensures written { out.new ≡ encoded K.RecordKind.format given out.old }
 {
     given.encode(out)?;
-    let length = K::octet_length();
-    let back = K::decode(&out[0..length])?;
+    let back = K::decode(&out[0..K::LENGTH])?;
     Ok(back)
 }
 
 // Octets into a record and back: of every kind, octets that decode encode to the same octets.
+#[tactic(auto, using(crate::proofs::Trips::rewrites))]
 pub fn rewrite<K: RecordKind>(octets: &[u8], out: &mut [u8]) -> Result<K, TripFault>
     ensures answer { result ≡ recoded K.RecordKind.format octets.now out.old }
     ensures written { out.new ≡ rewritten K.RecordKind.format octets.now out.old }

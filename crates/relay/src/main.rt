@@ -12,9 +12,10 @@ use relay::tell_messages;
 fn run(rt: &HostRuntime) -> anyhow::Result<()> {
     tell_messages(rt)?;
     publish(rt)?;
-    call(rt, rt.alloc())?;
-    disturb_calls(rt, rt.alloc())?;
-    disturb_twice(rt)
+    call(rt)?;
+    disturb_calls(rt)?;
+    disturb_twice(rt)?;
+    Ok(())
 }
 
 fn main(rt: HostRuntime) -> anyhow::Result<()> {

@@ -16,7 +16,7 @@ const CONSUMER: u32 = 7;
 const NUMBER: u32 = 256;
 
 fn parameters() -> Parameters {
-    let made = Parameters::new(Settings {
+    let settings = Settings {
         consumer_id: CONSUMER,
         provider_id: 1,
         base_id: BaseId::new(0x7296_2B91, 0x4AE6_FA75, 0x04B4_288D, 0x63AF_7DDC),
@@ -24,8 +24,8 @@ fn parameters() -> Parameters {
         timeout: 50,
         error_interval: 6,
         operator_ack_necessary: true,
-    });
-    made.unwrap()
+    };
+    Parameters::new(settings).unwrap()
 }
 
 // The request for a reading.
@@ -33,7 +33,7 @@ pub fn request() -> [u8; 9] {
     let request = Request {
         consumer_id: CONSUMER,
         monitoring_number: NUMBER,
-        flags: RequestFlags::of(0),
+        flags: RequestFlags::default(),
     };
     request.octets()
 }
@@ -42,13 +42,11 @@ pub fn request() -> [u8; 9] {
 pub fn response() -> [u8; 32] {
     let response = Response {
         safety_data: READING,
-        flags: ResponseFlags::of(0),
+        flags: ResponseFlags::default(),
         consumer_id: CONSUMER,
         monitoring_number: NUMBER,
     };
     let mut buffer = [0; LONGEST];
     let end = response.build(&parameters(), &mut buffer).unwrap();
-    let mut message = [0; 32];
-    message.copy_from_slice(&buffer[0..end]);
-    message
+    buffer[0..end].try_into().unwrap()
 }

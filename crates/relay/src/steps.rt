@@ -1,4 +1,5 @@
-// A down fetch: is the response placed anew before it, and what does it show?
+// A down fetch: is the response placed anew before it, and what does it show? The rows are constants, and each has both: the
+// flag does not say whether there is a remark.
 #[derive(Clone, Copy)]
 pub struct Step<'a> {
     pub places: bool,

@@ -10,7 +10,6 @@ mod tally;
 
 use block::Block;
 use calling::Calling;
-use calling::lane::SlotLane;
 use calling::memory::SLOT;
 use chained::Chained;
 use message::response::LONGEST;
@@ -21,18 +20,12 @@ use run::run_kind;
 fn run_link<K: Chained>(rt: &HostRuntime, name: &str) -> anyhow::Result<()> {
     let mut up_memory = vec![in rt.alloc(); 0u8; 4 * SLOT]?;
     let mut down_memory = vec![in rt.alloc(); 0u8; 4 * SLOT]?;
-    let mut buffer = vec![in rt.alloc(); 0u8; LONGEST]?;
-    let mut up = SlotLane::new(up_memory.as_mut_slice());
-    let mut down = SlotLane::new(down_memory.as_mut_slice());
-    let carrier = Calling::new(&mut up, &mut down);
-    run_kind::<K, _>(rt, name, carrier, buffer.as_mut_slice())
-}
-
-fn run_both(rt: &HostRuntime) -> anyhow::Result<()> {
-    run_link::<Meter>(rt, "meter, 7 octets")?;
-    run_link::<Block>(rt, "block, 1500 octets")
+    let buffer = vec![in rt.alloc(); 0u8; LONGEST]?;
+    let carrier = Calling::new(up_memory.as_mut_slice(), down_memory.as_mut_slice());
+    run_kind::<K, _>(rt, name, carrier, buffer)
 }
 
 fn main(rt: HostRuntime) -> anyhow::Result<()> {
-    run_both(&rt)
+    run_link::<Meter>(&rt, "meter, 7 octets")?;
+    run_link::<Block>(&rt, "block, 1500 octets")
 }

@@ -11,7 +11,7 @@ pub fn nanoseconds(span: Duration) -> u64 {
 
 // Nanoseconds of the cycles of a batch, of its serves, and of reading the clock alone. The clock is read once within each
 // of these spans.
-#[derive(Clone, Copy)]
+#[derive(Clone, Copy, Default)]
 pub struct Shares {
     cycles: u64,
     serves: u64,
@@ -19,14 +19,6 @@ pub struct Shares {
 }
 
 impl Shares {
-    pub fn new() -> Shares {
-        Shares {
-            cycles: 0,
-            serves: 0,
-            readings: 0,
-        }
-    }
-
     // More than any batch takes.
     pub fn most() -> Shares {
         Shares {
@@ -42,7 +34,7 @@ impl Shares {
         self.readings = self.readings.saturating_add(nanoseconds(reading));
     }
 
-    // The smaller of each.
+    // The smaller of each. A line for each of the three: a closure over them wants the three clauses once more.
     pub fn least(self, other: Shares) -> Shares
         ensures cycles { result.cycles ≡ min self.cycles other.cycles }
         ensures serves { result.serves ≡ min self.serves other.serves }

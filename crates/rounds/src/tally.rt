@@ -2,7 +2,7 @@ use consumer::event::Event;
 use std::fmt;
 
 // What the cycles of a run answered.
-#[derive(Clone, Copy)]
+#[derive(Clone, Copy, Default)]
 pub struct Tally {
     pub cycles: u32,
     accepted: u32,
@@ -10,14 +10,6 @@ pub struct Tally {
 }
 
 impl Tally {
-    pub fn new() -> Tally {
-        Tally {
-            cycles: 0,
-            accepted: 0,
-            checksum: 0,
-        }
-    }
-
     // Counts a cycle that answered this event and showed a record with this sample.
     pub fn take(&mut self, event: Event, sample: u32) {
         self.cycles = self.cycles.wrapping_add(1);

@@ -1,7 +1,7 @@
 -- Numbers of 64 bits in narrower fields.
-use Rattle.std.specs.Prelude.{ℕ, ◌-◌, ◌^◌, min, Bool, cond, Some, None, Option, nat_lt}
+use Rattle.std.specs.Prelude.{ℕ, ◌-◌, ◌^◌, min, cond, Some, None, Option, nat_lt}
 use Rattle.message.specs.declared.making.Settings.{Settings}
-use Rattle.message.specs.declared.parameters.BaseId.{BaseId}
+use Rattle.script.specs.declared.narrow.WideSettings.{WideSettings}
 
 -- a number in so many bits, and the widest value for one that is too wide
 abbrev pub saturated : ℕ → ℕ → ℕ
@@ -12,13 +12,13 @@ abbrev pub word : ℕ → Option ℕ
 word n = cond (nat_lt n (2 ^ 32)) (Some n) None
 
 -- the settings of a line: its level, timeout and interval are saturated
-abbrev pub settings_of : ℕ → ℕ → BaseId → ℕ → ℕ → ℕ → Bool → Settings
-settings_of consumer provider base level timeout interval necessary = record {
-  consumer_id = consumer;
-  provider_id = provider;
-  base_id = base;
-  level = saturated 8 level;
-  timeout = saturated 32 timeout;
-  error_interval = saturated 16 interval;
-  operator_ack_necessary = necessary;
+abbrev pub settings_of : WideSettings → Settings
+settings_of wide = record {
+  consumer_id = wide.consumer_id;
+  provider_id = wide.provider_id;
+  base_id = wide.base_id;
+  level = saturated 8 wide.level;
+  timeout = saturated 32 wide.timeout;
+  error_interval = saturated 16 wide.interval;
+  operator_ack_necessary = wide.operator_ack_necessary;
 }

@@ -5,6 +5,8 @@ use Rattle.std.specs.Fmt.{signed_decimal}
 use Rattle.record.specs.declared.draw.Draw.{Draw}
 use Rattle.record.specs.declared.draw.Draw.TheVariants.{Stop, Run, Preset}
 use Rattle.record.specs.declared.meter.Meter.{Meter}
+use Rattle.script.specs.declared.line.Given.{Given}
+use Rattle.script.specs.declared.line.Given.TheVariants as given
 
 abbrev pub validity : Bool → List ℕ
 validity valid = cond valid (codes "valid") (codes "invalid")
@@ -36,3 +38,8 @@ abbrev pub draw_text : Draw → List ℕ
 draw_text Stop = codes "stop"
 draw_text (Run rate) = codes "run " ++ double_text rate
 draw_text (Preset litres) = codes "preset " ++ double_text litres
+
+-- a record of one kind or the other
+abbrev pub given_text : Given → List ℕ
+given_text (given.Meter m) = meter_text m
+given_text (given.Draw d) = draw_text d

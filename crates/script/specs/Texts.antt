@@ -1,8 +1,8 @@
 -- The text of answers.
 use Rattle.std.specs.Prelude.{ℕ, Bool, cond, List, ◌++◌, Ok, Err, codes, decimal, Result}
+use Rattle.carrier.specs.Names.{lane_text}
 use Rattle.carrier.specs.Numbers.{place_number}
 use Rattle.carrier.specs.declared.lane.Lane.{Lane}
-use Rattle.carrier.specs.declared.lane.Lane.TheVariants.{Up, Down}
 use Rattle.carrier.specs.declared.lane.PlaceRefusal.{PlaceRefusal}
 use Rattle.consumer.specs.Cycled.{refusal_number}
 use Rattle.consumer.specs.Judgment.{cycle_number, cycle_place}
@@ -24,10 +24,6 @@ flag_text flag = cond flag (codes "on") (codes "off")
 
 abbrev pub mark_text : Bool → List ℕ
 mark_text substitutes = cond substitutes (codes "substitutes") (codes "process")
-
-abbrev pub lane_text : Lane → List ℕ
-lane_text Up = codes "up"
-lane_text Down = codes "down"
 
 -- what was refused, and the refusal's number
 abbrev pub refused_text : List ℕ → ℕ → List ℕ

@@ -1,127 +1,90 @@
 use crate::expected::{Expected, LineFault};
 use crate::line::Call;
 use crate::records::read_record;
-use crate::words::{end, number, word};
+use crate::words::Words;
 use carrier::lane::Lane;
+use consumer::inputs::Inputs;
 use message::flags::ResponseFlags;
 use message::response::LONGEST;
 use std::alloc::Global;
-use std::str::SplitWhitespace;
+use std::mem;
 use text::hexadecimal::octets_of;
+use text::number::number_of;
 
 // The octets of a buffer that no line asks for.
 const USUAL_BUFFER: u64 = LONGEST as u64;
 
-// What may stand at the end of a call, each once.
-#[derive(Clone, Copy)]
-struct Options {
-    ack: bool,
-    activate_fsv: bool,
-    test_mode: bool,
-    buffer: Option<u64>,
+// Sets a flag, unless it is set already.
+fn set_once(flag: &mut bool) -> bool {
+    !mem::replace(flag, true)
 }
 
-impl Options {
-    fn none() -> Options {
-        Options {
-            ack: false,
-            activate_fsv: false,
-            test_mode: false,
-            buffer: None,
+// The octets of a call's buffer, by the words that end it; each may stand once, and `take` takes all but the buffer.
+fn read_options<F: FnMut(&str) -> bool>(
+    words: Words<'_>,
+    expected: Expected,
+    mut take: F,
+) -> Result<u64, Expected>
+    requires { F.IsAlwaysCallable take }
+{
+    let mut buffer = None;
+    for word in words.words {
+        if take(word) {
+            continue;
+        }
+        match word.strip_prefix("buffer=").and_then(number_of) {
+            Some(octets) if buffer.is_none() => buffer = Some(octets),
+            _ => return Err(expected),
         }
     }
-
-    // Takes a word buffer=N, unless it is another word or there was one.
-    fn take_buffer(&mut self, text: &str, expected: Expected) -> Result<(), LineFault> {
-        let Some(octets) = text.strip_prefix("buffer=") else {
-            return Err(LineFault::Expected(expected));
-        };
-        if self.buffer.is_some() {
-            return Err(LineFault::Expected(expected));
-        }
-        self.buffer = Some(number(octets, expected)?);
-        Ok(())
-    }
+    Ok(buffer.unwrap_or(USUAL_BUFFER))
 }
 
-// Sets a flag that no word has set.
-fn set(flag: &mut bool, expected: Expected) -> Result<(), LineFault> {
-    if *flag {
-        return Err(LineFault::Expected(expected));
-    }
-    *flag = true;
-    Ok(())
-}
-
-fn cycle_options(words: SplitWhitespace<'_>) -> Result<Options, LineFault> {
-    let mut options = Options::none();
-    for text in words {
-        match text {
-            "ack" => set(&mut options.ack, Expected::CycleOption)?,
-            _ => options.take_buffer(text, Expected::CycleOption)?,
-        }
-    }
-    Ok(options)
-}
-
-fn serve_options(words: SplitWhitespace<'_>) -> Result<Options, LineFault> {
-    let mut options = Options::none();
-    for text in words {
-        match text {
-            "operator-ack" => set(&mut options.ack, Expected::ServeOption)?,
-            "activate-fsv" => set(&mut options.activate_fsv, Expected::ServeOption)?,
-            "test-mode" => set(&mut options.test_mode, Expected::ServeOption)?,
-            _ => options.take_buffer(text, Expected::ServeOption)?,
-        }
-    }
-    Ok(options)
-}
-
-pub(crate) fn read_cycle(mut words: SplitWhitespace<'_>) -> Result<Call, LineFault> {
-    let reading = number(word(&mut words, Expected::Reading)?, Expected::Reading)?;
-    let enable = match word(&mut words, Expected::Enable)? {
-        "enable" => true,
-        "disable" => false,
-        _ => return Err(LineFault::Expected(Expected::Enable)),
-    };
-    let Options { ack, buffer, .. } = cycle_options(words)?;
+pub(crate) fn read_cycle(mut words: Words<'_>) -> Result<Call, Expected> {
+    let reading = words.read(Expected::Reading, number_of)?;
+    let enable = words.one_of(Expected::Enable, [("enable", true), ("disable", false)])?;
+    let mut ack = false;
+    let buffer = read_options(
+        words,
+        Expected::CycleOption,
+        |word| word == "ack" && set_once(&mut ack),
+    )?;
     Ok(Call::Cycle {
-        reading,
-        enable,
-        ack,
-        buffer: buffer.unwrap_or(USUAL_BUFFER),
+        inputs: Inputs {
+            reading,
+            enable,
+            ack,
+        },
+        buffer,
     })
 }
 
-pub(crate) fn read_serve(mut words: SplitWhitespace<'_>) -> Result<Call, LineFault> {
+pub(crate) fn read_serve(mut words: Words<'_>) -> Result<Call, Expected> {
     let given = read_record(&mut words)?;
-    let Options {
-        ack,
-        activate_fsv,
-        test_mode,
-        buffer,
-    } = serve_options(words)?;
+    let mut flags = ResponseFlags {
+        operator_ack_provider: false,
+        activate_fsv: false,
+        test_mode_activated: false,
+    };
+    let buffer = read_options(words, Expected::ServeOption, |word| match word {
+        "operator-ack" => set_once(&mut flags.operator_ack_provider),
+        "activate-fsv" => set_once(&mut flags.activate_fsv),
+        "test-mode" => set_once(&mut flags.test_mode_activated),
+        _ => false,
+    })?;
     Ok(Call::Serve {
         given,
-        flags: ResponseFlags {
-            operator_ack_provider: ack,
-            activate_fsv,
-            test_mode_activated: test_mode,
-        },
-        buffer: buffer.unwrap_or(USUAL_BUFFER),
+        flags,
+        buffer,
     })
 }
 
-pub(crate) fn read_place(heap: Global, mut words: SplitWhitespace<'_>) -> Result<Call, LineFault> {
-    let lane = match word(&mut words, Expected::LaneName)? {
-        "up" => Lane::Up,
-        "down" => Lane::Down,
-        _ => return Err(LineFault::Expected(Expected::LaneName)),
-    };
-    let octets = match words.next() {
-        Some(text) => octets_of(heap, text)?.ok_or(LineFault::Expected(Expected::Octets))?,
+pub(crate) fn read_place(heap: Global, mut words: Words<'_>) -> Result<Call, LineFault> {
+    let lane = words.one_of(Expected::LaneName, [("up", Lane::Up), ("down", Lane::Down)])?;
+    let octets = match words.words.next() {
+        Some(text) => octets_of(heap, text)?.ok_or(Expected::Octets)?,
         None => Vec::new(heap),
     };
-    end(words)?;
+    words.end()?;
     Ok(Call::Place { lane, octets })
 }

@@ -1,12 +1,12 @@
 ghost use Rattle.std.specs.Prelude.{◌≡◌, Some};
 ghost use Rattle.script.specs.Messages.{expected_text, bad_line_text};
-ghost use Rattle.script.specs.declared.expected.LineFault.TheVariants.{Memory};
+ghost use Rattle.script.specs.declared.expected.LineFault.TheVariants as fault;
 
 use std::alloc::{AllocError, AllocFailed};
 use std::fmt;
 
 // What a line should have had.
-#[derive(Clone, Copy)]
+#[derive(Clone, Copy, Debug, PartialEq, Eq)]
 pub enum Expected {
     LineName,
     End,
@@ -76,15 +76,31 @@ impl Expected {
     }
 }
 
+impl fmt::Display for Expected {
+    ghost output = { λ expected. Some (expected_text expected) };
+
+    fn fmt<W: fmt::Write>(&self, f: &mut fmt::Formatter<W>) -> fmt::Result {
+        f.write_str(self.text())
+    }
+}
+
 // Why a line was not read.
-#[derive(Clone, Copy)]
+#[derive(Clone, Copy, Debug, PartialEq, Eq)]
 pub enum LineFault {
     Expected(Expected),
     Memory,
 }
 
+impl From<Expected> for LineFault {
+    ghost from_gives = { λ e r. r ≡ fault.Expected e };
+
+    fn from(expected: Expected) -> LineFault {
+        LineFault::Expected(expected)
+    }
+}
+
 impl From<AllocError> for LineFault {
-    ghost from_gives = { λ e r. r ≡ Memory };
+    ghost from_gives = { λ e r. r ≡ fault.Memory };
 
     fn from(_e: AllocError) -> LineFault {
         LineFault::Memory
@@ -92,7 +108,7 @@ impl From<AllocError> for LineFault {
 }
 
 impl<T: Drop> From<AllocFailed<T>> for LineFault {
-    ghost from_gives = { λ e r. r ≡ Memory };
+    ghost from_gives = { λ e r. r ≡ fault.Memory };
 
     fn from(_e: AllocFailed<T>) -> LineFault {
         LineFault::Memory
@@ -100,7 +116,7 @@ impl<T: Drop> From<AllocFailed<T>> for LineFault {
 }
 
 // A line that a script may not have, by its number from 1.
-#[derive(Clone, Copy)]
+#[derive(Clone, Copy, Debug, PartialEq, Eq)]
 pub struct BadLine {
     pub number: u64,
     pub fault: LineFault,
@@ -112,10 +128,7 @@ impl fmt::Display for BadLine {
     fn fmt<W: fmt::Write>(&self, f: &mut fmt::Formatter<W>) -> fmt::Result {
         let number = self.number;
         match self.fault {
-            LineFault::Expected(expected) => {
-                let what = expected.text();
-                write!(f, "line {number}: expected {what}")
-            }
+            LineFault::Expected(expected) => write!(f, "line {number}: expected {expected}"),
             LineFault::Memory => write!(f, "line {number}: out of memory"),
         }
     }

@@ -1,16 +1,18 @@
-ghost use Rattle.std.specs.Prelude.{◌≡◌, ℕ, List, IfOk, string_bytes, Option};
+ghost use Rattle.std.specs.Prelude.{◌≡◌, ℕ, List, Some, Option};
 ghost use Rattle.script.specs.declared.line.Given.{Given};
 ghost use Rattle.script.specs.Givens.{meter_given, draw_given};
-ghost use Rattle.script.specs.Records.{validity as validity_of, meter_text, draw_text};
+ghost use Rattle.script.specs.Records.{meter_text, draw_text, given_text};
 
-use crate::capitals::double_text;
+use crate::choice::word;
+use crate::digits::Double;
 use crate::line::Given;
 use record::draw::Draw;
 use record::kind::RecordKind;
 use record::meter::Meter;
-use std::alloc::{AllocError, Global};
+use std::fmt;
 
 // A record kind that a script can write.
+// Not by the library's conversions: those promise a relation, and the text of a line needs a function of the record.
 pub trait Written: RecordKind {
     ghost taken: { Given → Option Self };
 
@@ -20,15 +22,10 @@ pub trait Written: RecordKind {
     fn of(given: Given) -> Option<Self>
         ensures { result ≡ taken given };
 
-    // The record as a line has it.
-    fn text(&self, heap: Global) -> Result<String, AllocError>
-        ensures { IfOk result (λ s. string_bytes s ≡ written self.now) };
-}
-
-fn validity(valid: bool) -> &'static str
-    ensures { result.now ≡ validity_of valid }
-{
-    if valid { "valid" } else { "invalid" }
+    // The record as a line gives it.
+    fn given(self) -> Given
+        ensures text { given_text result ≡ written self }
+        ensures same { taken result ≡ Some self };
 }
 
 impl Written for Meter {
@@ -43,14 +40,8 @@ impl Written for Meter {
         }
     }
 
-    fn text(&self, heap: Global) -> Result<String, AllocError> {
-        let Meter {
-            pulses,
-            centidegrees,
-            valid,
-        } = *self;
-        let validity = validity(valid);
-        format!(in heap; "{pulses} {centidegrees} {validity}")
+    fn given(self) -> Given {
+        Given::Meter(self)
     }
 }
 
@@ -66,17 +57,30 @@ impl Written for Draw {
         }
     }
 
-    fn text(&self, heap: Global) -> Result<String, AllocError> {
+    fn given(self) -> Given {
+        Given::Draw(self)
+    }
+}
+
+// The record as a line has it.
+impl fmt::Display for Given {
+    ghost output = { λ given. Some (given_text given) };
+
+    fn fmt<W: fmt::Write>(&self, f: &mut fmt::Formatter<W>) -> fmt::Result {
         match *self {
-            Draw::Stop => String::from_str(heap, "stop"),
-            Draw::Run(rate) => {
-                let bits = double_text(heap, rate)?;
-                format!(in heap; "run {bits}")
+            Given::Meter(
+                Meter {
+                    pulses,
+                    centidegrees,
+                    valid,
+                },
+            ) => {
+                let validity = word(valid, "valid", "invalid");
+                write!(f, "{pulses} {centidegrees} {validity}")
             }
-            Draw::Preset(litres) => {
-                let bits = double_text(heap, litres)?;
-                format!(in heap; "preset {bits}")
-            }
+            Given::Draw(Draw::Stop) => write!(f, "stop"),
+            Given::Draw(Draw::Run(rate)) => write!(f, "run {}", Double(rate)),
+            Given::Draw(Draw::Preset(litres)) => write!(f, "preset {}", Double(litres)),
         }
     }
 }

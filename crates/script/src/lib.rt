@@ -2,7 +2,8 @@
 #![tactic(auto)]
 
 mod calls;
-mod capitals;
+mod choice;
+mod digits;
 pub mod expected;
 pub mod kinds;
 pub mod line;

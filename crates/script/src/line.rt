@@ -1,4 +1,5 @@
 use carrier::lane::Lane;
+use consumer::inputs::Inputs;
 use message::flags::ResponseFlags;
 use message::making::Settings;
 use record::draw::Draw;
@@ -39,9 +40,7 @@ pub enum Setting {
 #[derive(Drop)]
 pub enum Call {
     Cycle {
-        reading: u64,
-        enable: bool,
-        ack: bool,
+        inputs: Inputs,
         buffer: u64,
     },
     Serve {

@@ -1,62 +1,40 @@
 ghost use Rattle.std.specs.Prelude.{◌≡◌, ◌≤◌};
-ghost use Rattle.script.specs.Numbers.{saturated, word, settings_of};
+ghost use Rattle.script.specs.Numbers.{settings_of};
 
 use message::making::Settings;
 use message::parameters::BaseId;
 
-// The number in 8 bits; one that is too wide counts as the widest.
-pub fn saturated_u8(number: u64) -> u8
-    ensures { result ≡ saturated 8 number }
-{
-    number.min(u64::from(u8::MAX)) as u8
+// The settings as a line writes them, with numbers that may be too wide for their fields.
+#[derive(Clone, Copy)]
+pub struct WideSettings {
+    pub consumer_id: u32,
+    pub provider_id: u32,
+    pub base_id: BaseId,
+    pub level: u64,
+    pub timeout: u64,
+    pub interval: u64,
+    pub operator_ack_necessary: bool,
 }
 
-pub fn saturated_u16(number: u64) -> u16
-    ensures { result ≡ saturated 16 number }
-{
-    number.min(u64::from(u16::MAX)) as u16
-}
+// A level, timeout or interval within the limits is kept, and one that is too wide for its field counts as the widest,
+// which is past the limits.
+impl From<WideSettings> for Settings {
+    ghost from_gives = { λ wide settings. settings ≡ settings_of wide };
 
-pub fn saturated_u32(number: u64) -> u32
-    ensures { result ≡ saturated 32 number }
-{
-    number.min(u64::from(u32::MAX)) as u32
-}
-
-// The number, where it has 32 bits.
-pub fn word_of(number: u64) -> Option<u32>
-    ensures { result ≡ word number }
-{
-    if number <= u64::from(u32::MAX) {
-        Some(number as u32)
-    } else {
-        None
-    }
-}
-
-// The settings of a line. A level, timeout or interval within the limits is kept, and one that is too wide for its field
-// counts as the widest, which is past the limits.
-pub fn settings_of(
-    consumer_id: u32,
-    provider_id: u32,
-    base_id: BaseId,
-    level: u64,
-    timeout: u64,
-    interval: u64,
-    operator_ack_necessary: bool,
-) -> Settings
-    ensures made { result ≡ settings_of consumer_id provider_id base_id level timeout interval operator_ack_necessary }
-    ensures level { result.level ≤ 4 → result.level ≡ level }
-    ensures timeout { result.timeout ≤ 3600000 → result.timeout ≡ timeout }
-    ensures interval { result.error_interval ≤ 600 → result.error_interval ≡ interval }
-{
-    Settings {
-        consumer_id,
-        provider_id,
-        base_id,
-        level: saturated_u8(level),
-        timeout: saturated_u32(timeout),
-        error_interval: saturated_u16(interval),
-        operator_ack_necessary,
+    fn from(wide: WideSettings) -> Settings
+        ensures made { result ≡ settings_of wide }
+        ensures level { result.level ≤ 4 → result.level ≡ wide.level }
+        ensures timeout { result.timeout ≤ 3600000 → result.timeout ≡ wide.timeout }
+        ensures interval { result.error_interval ≤ 600 → result.error_interval ≡ wide.interval }
+    {
+        Settings {
+            consumer_id: wide.consumer_id,
+            provider_id: wide.provider_id,
+            base_id: wide.base_id,
+            level: u8::try_from(wide.level).unwrap_or(u8::MAX),
+            timeout: u32::try_from(wide.timeout).unwrap_or(u32::MAX),
+            error_interval: u16::try_from(wide.interval).unwrap_or(u16::MAX),
+            operator_ack_necessary: wide.operator_ack_necessary,
+        }
     }
 }

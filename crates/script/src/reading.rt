@@ -4,11 +4,12 @@ use crate::calls::{read_cycle, read_place, read_serve};
 use crate::expected::{BadLine, Expected, LineFault};
 use crate::line::Line;
 use crate::settings::{read_carrier, read_codes, read_kind, read_parameters, read_start};
+use crate::words::Words;
 use std::alloc::Global;
 
 fn read(heap: Global, text: &str) -> Result<Line, LineFault> {
-    let mut words = text.split_whitespace();
-    let Some(name) = words.next() else {
+    let mut words = Words::of(text);
+    let Some(name) = words.words.next() else {
         return Ok(Line::Nothing);
     };
     if name.starts_with('#') {
@@ -39,7 +40,7 @@ fn read(heap: Global, text: &str) -> Result<Line, LineFault> {
         "place" => Ok(Line::Call {
             call: read_place(heap, words)?,
         }),
-        _ => Err(LineFault::Expected(Expected::LineName)),
+        _ => Err(Expected::LineName.into()),
     }
 }
 
@@ -47,8 +48,5 @@ fn read(heap: Global, text: &str) -> Result<Line, LineFault> {
 pub fn read_line(heap: Global, number: u64, text: &str) -> Result<Line, BadLine>
     ensures { IfErr result (λ bad. bad.number ≡ number) }
 {
-    match read(heap, text) {
-        Ok(line) => Ok(line),
-        Err(fault) => Err(BadLine { number, fault }),
-    }
+    read(heap, text).map_err(|fault| BadLine { number, fault })
 }

@@ -1,18 +1,18 @@
 use crate::expected::{Expected, LineFault};
 use crate::line::{Kind, Network, Setting};
-use crate::narrow::{saturated_u8, settings_of};
-use crate::words::{end, number, number_value, short_number, short_value, value, word};
+use crate::narrow::WideSettings;
+use crate::words::{Words, one_of, short_number};
+use message::making::Settings;
 use message::parameters::BaseId;
 use std::alloc::Global;
-use std::str::SplitWhitespace;
+use text::number::number_of;
 
-pub(crate) fn read_kind(mut words: SplitWhitespace<'_>) -> Result<Setting, LineFault> {
-    let kind = match word(&mut words, Expected::KindName)? {
-        "meter" => Kind::Meter,
-        "draw" => Kind::Draw,
-        _ => return Err(LineFault::Expected(Expected::KindName)),
-    };
-    end(words)?;
+pub(crate) fn read_kind(mut words: Words<'_>) -> Result<Setting, Expected> {
+    let kind = words.one_of(
+        Expected::KindName,
+        [("meter", Kind::Meter), ("draw", Kind::Draw)],
+    )?;
+    words.end()?;
     Ok(Setting::Kind { kind })
 }
 
@@ -23,74 +23,67 @@ fn base_of(text: &str) -> Option<(&str, &str, &str, &str)> {
     Some((w1, w2, w3, w4))
 }
 
-fn read_base(text: &str) -> Result<BaseId, LineFault> {
-    let Some((w1, w2, w3, w4)) = base_of(text) else {
-        return Err(LineFault::Expected(Expected::Base));
-    };
-    Ok(BaseId::new(
-        short_number(w1, Expected::Base)?,
-        short_number(w2, Expected::Base)?,
-        short_number(w3, Expected::Base)?,
-        short_number(w4, Expected::Base)?,
+fn base(text: &str) -> Option<BaseId> {
+    let (w1, w2, w3, w4) = base_of(text)?;
+    Some(BaseId::new(
+        short_number(w1)?,
+        short_number(w2)?,
+        short_number(w3)?,
+        short_number(w4)?,
     ))
 }
 
-fn read_yes_or_no(text: &str) -> Result<bool, LineFault> {
-    match text {
-        "yes" => Ok(true),
-        "no" => Ok(false),
-        _ => Err(LineFault::Expected(Expected::Acknowledgment)),
-    }
+fn yes_or_no(text: &str) -> Option<bool> {
+    one_of(text, [("yes", true), ("no", false)])
 }
 
-pub(crate) fn read_parameters(mut words: SplitWhitespace<'_>) -> Result<Setting, LineFault> {
-    let consumer_id = short_value(&mut words, "consumer=", Expected::Consumer)?;
-    let provider_id = short_value(&mut words, "provider=", Expected::Provider)?;
-    let base_id = read_base(value(&mut words, "base=", Expected::Base)?)?;
-    let level = number_value(&mut words, "level=", Expected::Level)?;
-    let timeout = number_value(&mut words, "timeout=", Expected::Timeout)?;
-    let interval = number_value(&mut words, "interval=", Expected::Interval)?;
-    let necessary = value(&mut words, "acknowledgment=", Expected::Acknowledgment)?;
-    let operator_ack_necessary = read_yes_or_no(necessary)?;
-    end(words)?;
+pub(crate) fn read_parameters(mut words: Words<'_>) -> Result<Setting, Expected> {
+    let wide = WideSettings {
+        consumer_id: words.value("consumer=", Expected::Consumer, short_number)?,
+        provider_id: words.value("provider=", Expected::Provider, short_number)?,
+        base_id: words.value("base=", Expected::Base, base)?,
+        level: words.value("level=", Expected::Level, number_of)?,
+        timeout: words.value("timeout=", Expected::Timeout, number_of)?,
+        interval: words.value("interval=", Expected::Interval, number_of)?,
+        operator_ack_necessary: words.value(
+            "acknowledgment=",
+            Expected::Acknowledgment,
+            yes_or_no,
+        )?,
+    };
+    words.end()?;
     Ok(Setting::Parameters {
-        settings: settings_of(
-            consumer_id,
-            provider_id,
-            base_id,
-            level,
-            timeout,
-            interval,
-            operator_ack_necessary,
-        ),
+        settings: Settings::from(wide),
     })
 }
 
-pub(crate) fn read_carrier(mut words: SplitWhitespace<'_>) -> Result<Setting, LineFault> {
-    let network = match word(&mut words, Expected::CarrierName)? {
+pub(crate) fn read_carrier(mut words: Words<'_>) -> Result<Setting, Expected> {
+    let network = match words.word(Expected::CarrierName)? {
         "publishing" => Network::Publishing,
-        "calling" => {
-            let up = number(word(&mut words, Expected::Memories)?, Expected::Memories)?;
-            let down = number(word(&mut words, Expected::Memories)?, Expected::Memories)?;
-            Network::Calling { up, down }
-        }
-        _ => return Err(LineFault::Expected(Expected::CarrierName)),
+        "calling" => Network::Calling {
+            up: words.read(Expected::Memories, number_of)?,
+            down: words.read(Expected::Memories, number_of)?,
+        },
+        _ => return Err(Expected::CarrierName),
     };
-    end(words)?;
+    words.end()?;
     Ok(Setting::Carrier { network })
 }
 
-pub(crate) fn read_codes(heap: Global, words: SplitWhitespace<'_>) -> Result<Setting, LineFault> {
-    let mut codes = Vec::new(heap);
-    for text in words {
-        codes.push(saturated_u8(number(text, Expected::Code)?))?;
-    }
+// A code that is too wide counts as the widest.
+fn code(text: &str) -> Result<u8, LineFault> {
+    let code = number_of(text).ok_or(Expected::Code)?;
+    Ok(u8::try_from(code).unwrap_or(u8::MAX))
+}
+
+pub(crate) fn read_codes(heap: Global, words: Words<'_>) -> Result<Setting, LineFault> {
+    let codes = words.words.map(code).try_collect(heap)?;
     Ok(Setting::Disturb { codes })
 }
 
 // The start number of a link.
-pub(crate) fn read_start(mut words: SplitWhitespace<'_>) -> Result<u32, LineFault> {
-    let start = short_value(&mut words, "start=", Expected::Start)?;
-    end(words)?;
+pub(crate) fn read_start(mut words: Words<'_>) -> Result<u32, Expected> {
+    let start = words.value("start=", Expected::Start, short_number)?;
+    words.end()?;
     Ok(start)
 }

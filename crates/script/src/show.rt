@@ -1,161 +1,152 @@
-ghost use Rattle.std.specs.Prelude.{◌≡◌, IfOk, string_bytes};
-ghost use Rattle.script.specs.Texts.{flag_text, mark_text, lane_text, event_text, shown_text, cycle_text};
-ghost use Rattle.script.specs.Texts.{answered_text, served_text, serve_text, place_text, refused_text};
+// The lines that tell what was answered.
+ghost use Rattle.std.specs.Prelude.{◌≡◌, Some};
+ghost use Rattle.std.specs.Fmt.{WritesOnOk};
+ghost use Rattle.script.specs.Texts.{event_text, shown_text, cycle_text};
+ghost use Rattle.script.specs.Texts.{answered_text, serve_text, place_text, refused_text};
 
+use crate::choice::word;
+use crate::digits::Octets;
 use crate::kinds::Written;
 use carrier::lane::{Lane, PlaceRefusal};
 use consumer::event::{CycleAnswer, CycleRefusal, Event};
 use consumer::state::Shown;
 use message::request::Request;
 use provider::answer::{ServeAnswer, ServeRefusal};
-use std::alloc::{AllocError, Global};
-use text::hexadecimal::hexadecimal_of;
+use std::fmt;
 
-fn flag_name(flag: bool) -> &'static str
-    ensures { result.now ≡ flag_text flag }
-{
-    if flag { "on" } else { "off" }
-}
+#[derive(Clone, Copy)]
+struct EventText(Event);
 
-fn mark_name(substitutes: bool) -> &'static str
-    ensures { result.now ≡ mark_text substitutes }
-{
-    if substitutes {
-        "substitutes"
-    } else {
-        "process"
-    }
-}
+impl fmt::Display for EventText {
+    ghost output = { λ text. Some (event_text text.0) };
 
-fn lane_name(lane: Lane) -> &'static str
-    ensures { result.now ≡ lane_text lane }
-{
-    match lane {
-        Lane::Up => "up",
-        Lane::Down => "down",
-    }
-}
-
-fn event_text(heap: Global, event: Event) -> Result<String, AllocError>
-    ensures { IfOk result (λ s. string_bytes s ≡ event_text event) }
-{
-    match event {
-        Event::Disabled => String::from_str(heap, "disabled"),
-        Event::Started => String::from_str(heap, "started"),
-        Event::Expired => String::from_str(heap, "expired"),
-        Event::Nothing => String::from_str(heap, "none"),
-        Event::Ignored => String::from_str(heap, "ignored"),
-        Event::Fault(fault) => {
-            let number = fault.number();
-            let place = fault.place();
-            format!(in heap; "fault {number} at {place}")
+    fn fmt<W: fmt::Write>(&self, f: &mut fmt::Formatter<W>) -> fmt::Result {
+        match self.0 {
+            Event::Disabled => write!(f, "disabled"),
+            Event::Started => write!(f, "started"),
+            Event::Expired => write!(f, "expired"),
+            Event::Nothing => write!(f, "none"),
+            Event::Ignored => write!(f, "ignored"),
+            Event::Fault(fault) => write!(f, "fault {} at {}", fault.number(), fault.place()),
+            Event::Accepted => write!(f, "accepted"),
         }
-        Event::Accepted => String::from_str(heap, "accepted"),
     }
 }
 
-fn shown_text<K: Written>(heap: Global, shown: &Shown<K>) -> Result<String, AllocError>
-    ensures { IfOk result (λ s. string_bytes s ≡ shown_text K.Written.written shown.now) }
-{
-    let mark = mark_name(shown.fsv_activated);
-    let record = shown.safety_data.text(heap)?;
-    let wish = flag_name(shown.operator_ack_requested);
-    let ack = flag_name(shown.operator_ack_provider);
-    let test = flag_name(shown.test_mode_activated);
-    format!(in heap; "{mark} {record} wish={wish} ack-provider={ack} test-mode={test}")
+#[derive(Clone, Copy)]
+struct ShownText<K>(Shown<K>);
+
+impl<K: Written> fmt::Display for ShownText<K> {
+    ghost output = { λ text. Some (shown_text K.written text.0) };
+
+    fn fmt<W: fmt::Write>(&self, f: &mut fmt::Formatter<W>) -> fmt::Result {
+        let mark = word(self.0.fsv_activated, "substitutes", "process");
+        let record = self.0.safety_data.given();
+        let wish = word(self.0.operator_ack_requested, "on", "off");
+        let ack = word(self.0.operator_ack_provider, "on", "off");
+        let test = word(self.0.test_mode_activated, "on", "off");
+        write!(
+            f,
+            "{mark} {record} wish={wish} ack-provider={ack} test-mode={test}"
+        )
+    }
 }
 
 // What a cycle at this reading answered.
-pub fn cycle_text<K: Written>(
-    heap: Global,
-    reading: u64,
-    answer: Result<CycleAnswer<K>, CycleRefusal>,
-) -> Result<String, AllocError>
-    ensures { IfOk result (λ s. string_bytes s ≡ cycle_text K.Written.written reading answer) }
-{
-    match answer {
-        Ok(answer) => {
-            let shown = shown_text(heap, &answer.shown)?;
-            let event = event_text(heap, answer.event)?;
-            format!(in heap; "cycle {reading}: {shown} event={event}")
-        }
-        Err(refusal) => {
-            let number = refusal.number();
-            format!(in heap; "cycle {reading}: refused {number}")
+#[derive(Clone, Copy)]
+pub struct CycleLine<K> {
+    pub reading: u64,
+    pub answer: Result<CycleAnswer<K>, CycleRefusal>,
+}
+
+impl<K: Written> fmt::Display for CycleLine<K> {
+    ghost output = { λ line. Some (cycle_text K.written line.reading line.answer) };
+
+    fn fmt<W: fmt::Write>(&self, f: &mut fmt::Formatter<W>) -> fmt::Result {
+        let reading = self.reading;
+        match self.answer {
+            Ok(CycleAnswer { shown, event }) => {
+                let shown = ShownText(shown);
+                let event = EventText(event);
+                write!(f, "cycle {reading}: {shown} event={event}")
+            }
+            Err(refusal) => write!(f, "cycle {reading}: refused {}", refusal.number()),
         }
     }
 }
 
 // A request that was answered, new or again, and the response that was sent.
-fn answered_text(
-    heap: Global,
+fn write_answered<W: fmt::Write>(
+    f: &mut fmt::Formatter<W>,
     request: Request,
     age: &str,
     sent: &[u8],
-) -> Result<String, AllocError>
-    ensures { IfOk result (λ s. string_bytes s ≡ answered_text request age.now sent.now) }
+) -> fmt::Result
+    ensures { WritesOnOk W.write_str_gives f.old result (answered_text request age.now sent.now) f.new }
 {
     let Request {
         consumer_id,
         monitoring_number,
         flags,
     } = request;
-    let flags = flags.octet();
-    let octets = hexadecimal_of(heap, sent)?;
-    format!(in heap;
-        "serve: answered consumer={consumer_id} number={monitoring_number} flags={flags} {age} sent={octets}"
+    let flags = u8::from(flags);
+    let sent = Octets(sent);
+    write!(
+        f,
+        "serve: answered consumer={consumer_id} number={monitoring_number} flags={flags} {age} sent={sent}"
     )
 }
 
-// What a serve did.
-fn served_text(heap: Global, answer: ServeAnswer, sent: &[u8]) -> Result<String, AllocError>
-    ensures { IfOk result (λ s. string_bytes s ≡ served_text answer sent.now) }
-{
-    match answer {
-        ServeAnswer::Idle => String::from_str(heap, "serve: idle"),
-        ServeAnswer::New(request) => answered_text(heap, request, "new", sent),
-        ServeAnswer::Again(request) => answered_text(heap, request, "again", sent),
-    }
+// What a serve answered, and the response that it sent, if any.
+#[derive(Clone, Copy)]
+pub struct ServeLine<'a> {
+    pub answer: Result<ServeAnswer, ServeRefusal>,
+    pub sent: &'a [u8],
 }
 
-// What a serve answered, and the response that it sent, if any.
-pub fn serve_text(
-    heap: Global,
-    answer: Result<ServeAnswer, ServeRefusal>,
-    sent: &[u8],
-) -> Result<String, AllocError>
-    ensures { IfOk result (λ s. string_bytes s ≡ serve_text answer sent.now) }
-{
-    match answer {
-        Ok(answer) => served_text(heap, answer, sent),
-        Err(refusal) => {
-            let number = refusal.number();
-            format!(in heap; "serve: refused {number}")
+impl fmt::Display for ServeLine<'_> {
+    ghost output = { λ line. Some (serve_text line.answer line.sent.now) };
+
+    fn fmt<W: fmt::Write>(&self, f: &mut fmt::Formatter<W>) -> fmt::Result {
+        match self.answer {
+            Ok(ServeAnswer::Idle) => write!(f, "serve: idle"),
+            Ok(ServeAnswer::New(request)) => write_answered(f, request, "new", self.sent),
+            Ok(ServeAnswer::Again(request)) => write_answered(f, request, "again", self.sent),
+            Err(refusal) => write!(f, "serve: refused {}", refusal.number()),
         }
     }
 }
 
 // What a place on this lane answered.
-pub fn place_text(
-    heap: Global,
-    lane: Lane,
-    answer: Result<(), PlaceRefusal>,
-) -> Result<String, AllocError>
-    ensures { IfOk result (λ s. string_bytes s ≡ place_text lane answer) }
-{
-    let name = lane_name(lane);
-    match answer {
-        Ok(()) => format!(in heap; "place {name}: taken"),
-        Err(refusal) => {
-            let number = refusal.number();
-            format!(in heap; "place {name}: refused {number}")
+#[derive(Clone, Copy)]
+pub struct PlaceLine {
+    pub lane: Lane,
+    pub answer: Result<(), PlaceRefusal>,
+}
+
+impl fmt::Display for PlaceLine {
+    ghost output = { λ line. Some (place_text line.lane line.answer) };
+
+    fn fmt<W: fmt::Write>(&self, f: &mut fmt::Formatter<W>) -> fmt::Result {
+        let lane = self.lane;
+        match self.answer {
+            Ok(()) => write!(f, "place {lane}: taken"),
+            Err(refusal) => write!(f, "place {lane}: refused {}", refusal.number()),
         }
     }
 }
 
 // What was refused, and the refusal's number.
-pub fn refused_text(heap: Global, name: &str, number: u8) -> Result<String, AllocError>
-    ensures { IfOk result (λ s. string_bytes s ≡ refused_text name.now number) }
-{
-    format!(in heap; "{name}: refused {number}")
+#[derive(Clone, Copy)]
+pub struct Refused<'a> {
+    pub name: &'a str,
+    pub number: u8,
+}
+
+impl fmt::Display for Refused<'_> {
+    ghost output = { λ refused. Some (refused_text refused.name.now refused.number) };
+
+    fn fmt<W: fmt::Write>(&self, f: &mut fmt::Formatter<W>) -> fmt::Result {
+        write!(f, "{}: refused {}", self.name, self.number)
+    }
 }

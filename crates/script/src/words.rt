@@ -1,66 +1,83 @@
 ghost use Rattle.std.specs.Prelude.{◌≡◌};
-ghost use Rattle.script.specs.Readings.{number_read, word_read};
+ghost use Rattle.script.specs.Readings.{word_read};
 
-use crate::expected::{Expected, LineFault};
-use crate::narrow::word_of;
+use crate::expected::Expected;
 use std::str::SplitWhitespace;
 use text::number::number_of;
 
-// The next word.
-pub(crate) fn word<'a>(
-    words: &mut SplitWhitespace<'a>,
-    expected: Expected,
-) -> Result<&'a str, LineFault> {
-    words.next().ok_or(LineFault::Expected(expected))
+// The words of a line that are still to be read.
+#[derive(Drop)]
+pub(crate) struct Words<'a> {
+    pub words: SplitWhitespace<'a>,
 }
 
-// There is no further word.
-pub(crate) fn end(mut words: SplitWhitespace<'_>) -> Result<(), LineFault> {
-    match words.next() {
-        None => Ok(()),
-        Some(_) => Err(LineFault::Expected(Expected::End)),
+impl<'a> Words<'a> {
+    pub(crate) fn of(line: &'a str) -> Words<'a> {
+        Words {
+            words: line.split_whitespace(),
+        }
     }
-}
 
-// What stands after the key in the next word.
-pub(crate) fn value<'a>(
-    words: &mut SplitWhitespace<'a>,
-    key: &str,
-    expected: Expected,
-) -> Result<&'a str, LineFault> {
-    match word(words, expected)?.strip_prefix(key) {
-        Some(value) => Ok(value),
-        None => Err(LineFault::Expected(expected)),
+    // The next word.
+    pub(crate) fn word(&mut self, expected: Expected) -> Result<&'a str, Expected> {
+        self.words.next().ok_or(expected)
     }
-}
 
-pub(crate) fn number(text: &str, expected: Expected) -> Result<u64, LineFault>
-    ensures { result ≡ number_read text.now expected }
-{
-    number_of(text).ok_or(LineFault::Expected(expected))
+    // What is read of the next word.
+    pub(crate) fn read<T, F: FnOnce(&'a str) -> Option<T>>(
+        &mut self,
+        expected: Expected,
+        read: F,
+    ) -> Result<T, Expected>
+        requires { F.IsAlwaysCallable read }
+    {
+        read(self.word(expected)?).ok_or(expected)
+    }
+
+    // What the next word stands for, which is one of two.
+    pub(crate) fn one_of<T: Copy>(
+        &mut self,
+        expected: Expected,
+        words: [(&str, T); 2],
+    ) -> Result<T, Expected> {
+        one_of(self.word(expected)?, words).ok_or(expected)
+    }
+
+    // What is read of what stands after the key in the next word.
+    pub(crate) fn value<T, F: FnOnce(&'a str) -> Option<T>>(
+        &mut self,
+        key: &str,
+        expected: Expected,
+        read: F,
+    ) -> Result<T, Expected>
+        requires { F.IsAlwaysCallable read }
+    {
+        let value = self.word(expected)?.strip_prefix(key).ok_or(expected)?;
+        read(value).ok_or(expected)
+    }
+
+    // There is no further word.
+    pub(crate) fn end(mut self) -> Result<(), Expected> {
+        match self.words.next() {
+            None => Ok(()),
+            Some(_) => Err(Expected::End),
+        }
+    }
 }
 
 // A number of 32 bits.
-pub(crate) fn short_number(text: &str, expected: Expected) -> Result<u32, LineFault>
-    ensures { result ≡ word_read text.now expected }
+pub(crate) fn short_number(text: &str) -> Option<u32>
+    ensures { result ≡ word_read text.now }
 {
-    let number = number(text, expected)?;
-    word_of(number).ok_or(LineFault::Expected(expected))
+    u32::try_from(number_of(text)?).ok()
 }
 
-// The number after the key in the next word.
-pub(crate) fn number_value(
-    words: &mut SplitWhitespace<'_>,
-    key: &str,
-    expected: Expected,
-) -> Result<u64, LineFault> {
-    number(value(words, key, expected)?, expected)
-}
-
-pub(crate) fn short_value(
-    words: &mut SplitWhitespace<'_>,
-    key: &str,
-    expected: Expected,
-) -> Result<u32, LineFault> {
-    short_number(value(words, key, expected)?, expected)
+// What the text stands for, which is one of two words.
+pub(crate) fn one_of<T: Copy>(text: &str, words: [(&str, T); 2]) -> Option<T> {
+    for (word, meant) in words {
+        if word == text {
+            return Some(meant);
+        }
+    }
+    None
 }

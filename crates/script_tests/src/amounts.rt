@@ -73,7 +73,7 @@ fn numbers(rt: HostRuntime) -> Result<(), Fail> {
             let Some(draw) = draw(rt.alloc(), name, amount)? else {
                 return Err(Fail::new(amount));
             };
-            let text = draw.text(rt.alloc())?;
+            let text = format!(in rt.alloc(); "{}", draw.given())?;
             let printed = format!(in rt.alloc(); "{name} {bits}")?;
             assert!(rt; text.as_str() == printed.as_str(), "{}", amount);
         }

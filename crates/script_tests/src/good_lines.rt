@@ -7,10 +7,7 @@ use std::process::Abort;
 use std::test::Fail;
 
 fn read(heap: Global, text: &str) -> Result<Line, Fail> {
-    match read_line(heap, 1, text) {
-        Ok(line) => Ok(line),
-        Err(_) => Err(Fail::new("a bad line")),
-    }
+    Ok(read_line(heap, 1, text)?)
 }
 
 #[test]
@@ -95,30 +92,26 @@ fn memories_and_codes(rt: HostRuntime) -> Result<(), Fail> {
     }
 }
 
-// A call's options in any order, and the buffer that is lent.
-#[test]
-fn options(rt: HostRuntime) -> Result<(), Fail> {
+fn check_cycle_options(rt: &impl Abort, heap: Global) -> Result<(), Fail> {
     for (text, octets) in [
         ("cycle 0xFFFFFFFFFFFFFFFF enable ack", 1525),
         ("cycle 18446744073709551615 enable ack buffer=7", 7),
         ("cycle 18446744073709551615 enable buffer=0 ack", 0),
     ] {
-        match read(rt.alloc(), text)? {
+        match read(heap, text)? {
             Line::Call {
-                call: Call::Cycle {
-                    reading,
-                    enable,
-                    ack,
-                    buffer,
-                },
-            } => assert!(rt;
-                reading == u64::MAX && enable && ack && buffer == octets,
-                "{}",
-                text
-            ),
+                call: Call::Cycle { inputs, buffer },
+            } => {
+                assert!(rt; inputs.reading == u64::MAX && inputs.enable && inputs.ack);
+                assert_eq!(rt; buffer, octets, "{}", text);
+            }
             _ => return Err(Fail::new("no cycle")),
         }
     }
+    Ok(())
+}
+
+fn check_serve_options(rt: &impl Abort, heap: Global) -> Result<(), Fail> {
     for (text, octet) in [
         ("serve 4294967295 -32768 invalid", 0),
         ("serve 0xFFFFFFFF -32768 invalid operator-ack", 1),
@@ -131,7 +124,7 @@ fn options(rt: HostRuntime) -> Result<(), Fail> {
             7,
         ),
     ] {
-        match read(rt.alloc(), text)? {
+        match read(heap, text)? {
             Line::Call {
                 call: Call::Serve {
                     given: Given::Meter(meter),
@@ -142,12 +135,19 @@ fn options(rt: HostRuntime) -> Result<(), Fail> {
                 assert!(rt;
                     meter.pulses == u32::MAX && meter.centidegrees == i16::MIN && !meter.valid
                 );
-                assert_eq!(rt; flags.octet(), octet, "{}", text);
+                assert_eq!(rt; u8::from(flags), octet, "{}", text);
             }
             _ => return Err(Fail::new("no serve")),
         }
     }
     Ok(())
+}
+
+// A call's options in any order, and the buffer that is lent.
+#[test]
+fn options(rt: HostRuntime) -> Result<(), Fail> {
+    check_cycle_options(&rt, rt.alloc())?;
+    check_serve_options(&rt, rt.alloc())
 }
 
 fn check_octets(rt: &impl Abort, heap: Global, text: &str, expected: &[u8]) -> Result<(), Fail> {

@@ -11,8 +11,9 @@ use record::draw::Draw;
 use record::fault::{RecordCause, RecordFault};
 use record::meter::Meter;
 use script::kinds::Written;
-use script::show::{cycle_text, place_text, refused_text, serve_text};
+use script::show::{CycleLine, PlaceLine, Refused, ServeLine};
 use std::alloc::Global;
+use std::fmt::Display;
 use std::process::Abort;
 use std::test::Fail;
 
@@ -58,58 +59,63 @@ const EVENTS: [(Event, &str); 10] = [
     ),
 ];
 
+fn check_line(
+    rt: &impl Abort,
+    heap: Global,
+    line: impl Display + Drop,
+    expected: &str,
+) -> Result<(), Fail> {
+    let printed = format!(in heap; "{line}")?;
+    assert!(rt; printed.as_str() == expected, "{}", expected);
+    Ok(())
+}
+
 #[test]
 fn events(rt: HostRuntime) -> Result<(), Fail> {
     for (event, name) in EVENTS {
-        let answer = Ok(CycleAnswer {
-            shown: SHOWN,
-            event,
-        });
-        let text = cycle_text(rt.alloc(), u64::MAX, answer)?;
-        let line = format!(in rt.alloc();
+        let line = CycleLine {
+            reading: u64::MAX,
+            answer: Ok(CycleAnswer {
+                shown: SHOWN,
+                event,
+            }),
+        };
+        let expected = format!(in rt.alloc();
             "cycle 18446744073709551615: process 70000 -5 valid wish=off ack-provider=on test-mode=off event={name}"
         )?;
-        assert!(rt; text.as_str() == line.as_str(), "{}", name);
+        check_line(&rt, rt.alloc(), line, expected.as_str())?;
     }
     Ok(())
 }
 
-fn check_cycle<K: Written>(
-    rt: &impl Abort,
-    heap: Global,
-    shown: Shown<K>,
-    line: &str,
-) -> Result<(), Fail> {
-    let text = cycle_text(
-        heap,
-        0,
-        Ok(CycleAnswer {
+fn accepted<K: Written>(shown: Shown<K>) -> CycleLine<K> {
+    CycleLine {
+        reading: 0,
+        answer: Ok(CycleAnswer {
             shown,
             event: Event::Accepted,
         }),
-    )?;
-    assert!(rt; text.as_str() == line, "{}", line);
-    Ok(())
+    }
 }
 
 #[test]
 fn cycles(rt: HostRuntime) -> Result<(), Fail> {
-    check_cycle(
+    check_line(
         &rt,
         rt.alloc(),
-        Shown {
+        accepted(Shown {
             safety_data: Draw::Stop,
             fsv_activated: true,
             operator_ack_requested: true,
             operator_ack_provider: false,
             test_mode_activated: true,
-        },
+        }),
         "cycle 0: substitutes stop wish=on ack-provider=off test-mode=on event=accepted",
     )?;
-    check_cycle(
+    check_line(
         &rt,
         rt.alloc(),
-        Shown {
+        accepted(Shown {
             safety_data: Meter {
                 pulses: u32::MAX,
                 centidegrees: i16::MIN,
@@ -119,13 +125,14 @@ fn cycles(rt: HostRuntime) -> Result<(), Fail> {
             operator_ack_requested: false,
             operator_ack_provider: false,
             test_mode_activated: false,
-        },
+        }),
         "cycle 0: process 4294967295 -32768 invalid wish=off ack-provider=off test-mode=off event=accepted",
     )?;
-    let refused: Result<CycleAnswer<Meter>, CycleRefusal> = Err(CycleRefusal::ShortBuffer);
-    let text = cycle_text(rt.alloc(), 10, refused)?;
-    assert!(rt; text.as_str() == "cycle 10: refused 7");
-    Ok(())
+    let refused: CycleLine<Meter> = CycleLine {
+        reading: 10,
+        answer: Err(CycleRefusal::ShortBuffer),
+    };
+    check_line(&rt, rt.alloc(), refused, "cycle 10: refused 7")
 }
 
 const REQUEST: Request = Request {
@@ -140,7 +147,8 @@ const REQUEST: Request = Request {
 
 #[test]
 fn serves(rt: HostRuntime) -> Result<(), Fail> {
-    for (answer, line) in [
+    let sent = [0, 171, 15];
+    for (answer, expected) in [
         (Ok(ServeAnswer::Idle), "serve: idle"),
         (
             Ok(ServeAnswer::New(REQUEST)),
@@ -155,15 +163,18 @@ fn serves(rt: HostRuntime) -> Result<(), Fail> {
         (Err(ServeRefusal::Full), "serve: refused 10"),
         (Err(ServeRefusal::NotARequest), "serve: refused 11"),
     ] {
-        let text = serve_text(rt.alloc(), answer, &[0, 171, 15])?;
-        assert!(rt; text.as_str() == line, "{}", line);
+        let line = ServeLine {
+            answer,
+            sent: &sent,
+        };
+        check_line(&rt, rt.alloc(), line, expected)?;
     }
     Ok(())
 }
 
 #[test]
 fn places(rt: HostRuntime) -> Result<(), Fail> {
-    for (lane, answer, line) in [
+    for (lane, answer, expected) in [
         (Lane::Up, Ok(()), "place up: taken"),
         (Lane::Down, Ok(()), "place down: taken"),
         (Lane::Up, Err(PlaceRefusal::Length), "place up: refused 9"),
@@ -173,10 +184,11 @@ fn places(rt: HostRuntime) -> Result<(), Fail> {
             "place down: refused 10",
         ),
     ] {
-        let text = place_text(rt.alloc(), lane, answer)?;
-        assert!(rt; text.as_str() == line, "{}", line);
+        check_line(&rt, rt.alloc(), PlaceLine { lane, answer }, expected)?;
     }
-    let text = refused_text(rt.alloc(), "link", 4)?;
-    assert!(rt; text.as_str() == "link: refused 4");
-    Ok(())
+    let refused = Refused {
+        name: "link",
+        number: 4,
+    };
+    check_line(&rt, rt.alloc(), refused, "link: refused 4")
 }

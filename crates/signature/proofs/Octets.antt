@@ -1,10 +1,12 @@
 -- A register leaves octet by octet, and four octets enter it as one number.
-use Rattle.std.proofs.Common.{◌≡◌, ℕ, ◌+◌, ◌*◌, ◌/◌, ◌%◌, ◌^◌, ◌<◌, ◌≤◌, List, [], ◌∷◌, length, get_or, drop, sym, ap, ◌∙◌, mod-eq_of_lt, le-mul_of_pos_right, arith}
+use Rattle.std.proofs.Common.{◌≡◌, ℕ, zero, suc, ◌+◌, ◌*◌, ◌/◌, ◌%◌, ◌^◌, ◌<◌, ◌≤◌, List, [], ◌∷◌, ◌++◌, length, get_or, take, drop, reverse, fold, sym, refl, ap, ◌∙◌, mod-eq_of_lt, le-mul_of_pos_right, length-drop, arith}
 use native.Mathlib.Nat.{mod-le}
 use lib.Bits.{bit_xor, xor_assoc, xor_zero_r, xor_lt, xor_mod, xor_shr, xor_shifted}
 use Rattle.std.proofs.lemmas.Nat.{mod_below, mod-pow-add, pow_pos, shl-shr, shr_below}
-use Rattle.std.proofs.lemmas.List.{at_drop_more}
-use Rattle.signature.specs.Signature.{bit_steps, octet_step, remainder}
+use Rattle.std.specs.Simd.{first_chunks}
+use Rattle.std.proofs.lemmas.List.{at_drop_more, take-append-drop, reverse-append}
+use Rattle.std.proofs.lemmas.List.Sums.{fold-append}
+use Rattle.signature.specs.Signature.{bit_step, bit_steps, octet_step, entered}
 use Rattle.signature.proofs.Register.{bit_steps_lt, bit_steps_xor, bit_steps_low}
 
 -- after n bits the octet in x stands at the top
@@ -44,6 +46,14 @@ one_by_row r o hr ho row =
     let moved : r % 2 ^ 24 * 2 ^ 8 ≡ r * 2 ^ 8 % 2 ^ 32 = omega arith in
     cc
 
+-- m bits leave, and then n
+then_leave : (m n k x : ℕ) → m + n ≡ k → bit_steps k x ≡ bit_steps n (bit_steps m x)
+then_leave zero n k x e =
+    let n_is_k : k ≡ n = omega arith in
+    ap (λ i. bit_steps i x) n_is_k
+then_leave (suc m) n zero x e = absurd (omega arith)
+then_leave (suc m) n (suc k) x e = then_leave m n k (bit_step x) (omega arith)
+
 -- the four octets of a register leave, each by its row, in 32 bits and n more
 pub four_by_rows : {x3 x2 x1 x0 : ℕ} (n w : ℕ) (os : List ℕ) → w < 2 ^ 32
     → os ≡ w % 2 ^ 8 ∷ w / 2 ^ 8 % 2 ^ 8 ∷ w / 2 ^ 16 % 2 ^ 8 ∷ w / 2 ^ 24 % 2 ^ 8 ∷ []
@@ -59,6 +69,20 @@ four_by_rows n w os h e r3 r2 r1 r0 =
     let t1 = to_top 16 (w / 2 ^ 8 % 2 ^ 8 * 2 ^ 8) (w / 2 ^ 8 % 2 ^ 8) (omega arith) (omega arith) in
     let t0 = to_top 24 (w % 2 ^ 8) (w % 2 ^ 8) (omega arith) (omega arith) in
     cc
+
+-- the same by the rows of four tables that lie one behind the other, from table t on
+pub four_by_tables : {x3 x2 x1 x0 : ℕ} (t w : ℕ) (os : List ℕ) → w < 2 ^ 32
+    → os ≡ w % 2 ^ 8 ∷ w / 2 ^ 8 % 2 ^ 8 ∷ w / 2 ^ 16 % 2 ^ 8 ∷ w / 2 ^ 24 % 2 ^ 8 ∷ []
+    → x3 ≡ bit_steps (8 * (t + 3 + 1)) (get_or os 3 0 * 2 ^ 24) → x2 ≡ bit_steps (8 * (t + 2 + 1)) (get_or os 2 0 * 2 ^ 24)
+    → x1 ≡ bit_steps (8 * (t + 1 + 1)) (get_or os 1 0 * 2 ^ 24) → x0 ≡ bit_steps (8 * (t + 1)) (get_or os 0 0 * 2 ^ 24)
+    → bit_xor x3 (bit_xor x2 (bit_xor x1 x0)) ≡ bit_steps (8 * (t + 4)) w
+four_by_tables t w os h e r3 r2 r1 r0 =
+    let n : ℕ = 8 * t in
+    let n3 = then_leave 32 n (8 * (t + 3 + 1)) (get_or os 3 0 * 2 ^ 24) (omega arith) in
+    let n2 = then_leave 24 n (8 * (t + 2 + 1)) (get_or os 2 0 * 2 ^ 24) (omega arith) in
+    let n1 = then_leave 16 n (8 * (t + 1 + 1)) (get_or os 1 0 * 2 ^ 24) (omega arith) in
+    let n0 = then_leave 8 n (8 * (t + 1)) (get_or os 0 0 * 2 ^ 24) (omega arith) in
+    four_by_rows n w os h e (r3 ∙ n3) (r2 ∙ n2) (r1 ∙ n1) (r0 ∙ n0) ∙ sym (then_leave 32 n (8 * (t + 4)) w (omega arith))
 
 -- an octet that enters after n bits may enter before them, n places lower
 enter : (n r x o : ℕ) → r < 2 ^ 32 → o < 2 ^ 8 → x * 2 ^ n ≡ o * 2 ^ 24
@@ -92,19 +116,45 @@ four_octets r a b c d hr ha hb hc hd =
     cc
 
 -- one octet further down
-pub one_down : {r : ℕ} (xs : List ℕ) (i j : ℕ) → i + 1 ≡ j → j ≤ length xs
-    → r ≡ remainder (drop j xs) → octet_step r (get_or xs i 0) ≡ remainder (drop i xs)
-one_down xs i j e h from = cc (at_drop_more remainder xs i 0 (omega arith))
+one_down : {q : ℕ} (r : ℕ) (xs : List ℕ) (i j : ℕ) → i + 1 ≡ j → j ≤ length xs
+    → q ≡ entered r (drop j xs) → octet_step q (get_or xs i 0) ≡ entered r (drop i xs)
+one_down r xs i j e h from = cc (at_drop_more (entered r) xs i 0 (omega arith))
 
 -- four octets further down, as one number
-pub four_down : {r w : ℕ} (xs : List ℕ) (i j k l m : ℕ) → i + 1 ≡ j → j + 1 ≡ k → k + 1 ≡ l → l + 1 ≡ m → m ≤ length xs
-    → ((n : ℕ) → get_or xs n 0 < 2 ^ 8) → r < 2 ^ 32 → r ≡ remainder (drop m xs)
+pub four_down : {q w : ℕ} (r : ℕ) (xs : List ℕ) (i j k l m : ℕ) → i + 1 ≡ j → j + 1 ≡ k → k + 1 ≡ l → l + 1 ≡ m → m ≤ length xs
+    → ((n : ℕ) → get_or xs n 0 < 2 ^ 8) → q < 2 ^ 32 → q ≡ entered r (drop m xs)
     → w ≡ get_or xs i 0 + get_or xs j 0 * 2 ^ 8 + get_or xs k 0 * 2 ^ 16 + get_or xs l 0 * 2 ^ 24
-    → bit_steps 32 (bit_xor r w) ≡ remainder (drop i xs)
-four_down {r} xs i j k l m ej ek el em h small hr from word =
-    let d3 = one_down xs l m em h from in
-    let d2 = one_down xs k l el (omega arith) d3 in
-    let d1 = one_down xs j k ek (omega arith) d2 in
-    let d0 = one_down xs i j ej (omega arith) d1 in
-    let all = four_octets r (get_or xs l 0) (get_or xs k 0) (get_or xs j 0) (get_or xs i 0) hr (small l) (small k) (small j) (small i) in
-    ap (λ x. bit_steps 32 (bit_xor r x)) word ∙ sym all ∙ d0
+    → bit_steps 32 (bit_xor q w) ≡ entered r (drop i xs)
+four_down {q} r xs i j k l m ej ek el em h small hq from word =
+    let d3 = one_down r xs l m em h from in
+    let d2 = one_down r xs k l el (omega arith) d3 in
+    let d1 = one_down r xs j k ek (omega arith) d2 in
+    let d0 = one_down r xs i j ej (omega arith) d1 in
+    let all = four_octets q (get_or xs l 0) (get_or xs k 0) (get_or xs j 0) (get_or xs i 0) hq (small l) (small k) (small j) (small i) in
+    ap (λ x. bit_steps 32 (bit_xor q x)) word ∙ sym all ∙ d0
+
+-- the last octets enter, and then those before them
+entered_append : (r : ℕ) (xs ys : List ℕ) → entered (entered r ys) xs ≡ entered r (xs ++ ys)
+entered_append r [] ys = refl
+entered_append r (x ∷ xs) ys = ap (λ q. octet_step q x) (entered_append r xs ys)
+
+pub entered_split : (r n : ℕ) (xs : List ℕ) → entered (entered r (drop n xs)) (take n xs) ≡ entered r xs
+entered_split r n xs = entered_append r (take n xs) (drop n xs) ∙ ap (entered r) (take-append-drop n xs)
+
+-- a step for each item, from the last one on
+fold_back : {A : Type 0} (f : ℕ → A → ℕ) (r : ℕ) (x : A) (xs : List A)
+    → fold f r (reverse (x ∷ xs)) ≡ f (fold f r (reverse xs)) x
+fold_back f r x xs = ap (fold f r) (reverse-append (x ∷ []) xs) ∙ fold-append f r (reverse xs) (x ∷ [])
+
+pub one_by_one : (r : ℕ) (xs : List ℕ) → fold octet_step r (reverse xs) ≡ entered r xs
+one_by_one r [] = refl
+one_by_one r (x ∷ xs) = fold_back octet_step r x xs ∙ ap (λ q. octet_step q x) (one_by_one r xs)
+
+pub chunk_by_chunk : (r n k : ℕ) (xs : List ℕ) → length xs ≡ k * n
+    → fold (λ q os. entered q os) r (reverse (first_chunks n k xs)) ≡ entered r xs
+chunk_by_chunk r n zero [] e = refl
+chunk_by_chunk r n zero (x ∷ xs) e = absurd (omega arith)
+chunk_by_chunk r n (suc k) xs e =
+    fold_back (λ q os. entered q os) r (take n xs) (first_chunks n k (drop n xs))
+    ∙ ap (λ q. entered q (take n xs)) (chunk_by_chunk r n k (drop n xs) (omega (arith, length-drop n xs)))
+    ∙ entered_split r n xs

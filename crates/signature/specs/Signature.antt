@@ -18,10 +18,14 @@ bit_steps (suc n) register = bit_steps n (bit_step register)
 unfoldable pub octet_step : ℕ → ℕ → ℕ
 octet_step register octet = bit_steps 8 (bit_xor register (octet * 2 ^ 24))
 
--- the register starts at 1, and the octet at the highest address enters first
+-- octets enter a register, the one at the highest address first
+abbrev pub entered : ℕ → List ℕ → ℕ
+entered register [] = register
+entered register (octet ∷ higher) = octet_step (entered register higher) octet
+
+-- the register starts at 1
 abbrev pub remainder : List ℕ → ℕ
-remainder [] = 1
-remainder (octet ∷ higher) = octet_step (remainder higher) octet
+remainder octets = entered 1 octets
 
 -- a remainder 0 is sent as 1
 abbrev pub sent : ℕ → ℕ

@@ -1,7 +1,7 @@
 #![tactic(auto)]
 
 ghost use Rattle.std.specs.Prelude.{◌≡◌, ◌+◌, ◌*◌, ◌^◌, ◌<◌, bit_xor};
-ghost use Rattle.signature.specs.Signature.{bit_steps, octet_step, signature};
+ghost use Rattle.signature.specs.Signature.{bit_steps, octet_step, entered, remainder, signature};
 
 mod rows;
 
@@ -12,7 +12,7 @@ fn row(table: usize, octet: u8) -> u32
     requires { table < 8 }
     ensures { result ≡ bit_steps (8 * (table + 1)) (octet * 2 ^ 24) }
 {
-    ROWS[table * 256 + octet as usize]
+    ROWS[table][octet as usize]
 }
 
 // One octet more.
@@ -22,53 +22,38 @@ fn one(register: u32, octet: u8) -> u32
     row(0, (register >> 24) as u8 ^ octet) ^ (register << 8)
 }
 
-// Four octets more, as a number whose highest octet enters first.
-fn four(register: u32, word: u32) -> u32
-    ensures { result ≡ bit_steps 32 (bit_xor register word) }
+// Four octets more, as a number whose highest octet enters first, and then as many zero octets as TABLE says.
+fn four<const TABLE: usize>(register: u32, word: u32) -> u32
+    requires { TABLE < 5 }
+    ensures { result ≡ bit_steps (8 * (TABLE + 4)) (bit_xor register word) }
 {
     let [a, b, c, d] = (register ^ word).to_le_bytes();
-    row(3, d) ^ (row(2, c) ^ (row(1, b) ^ row(0, a)))
+    row(TABLE + 3, d) ^ (row(TABLE + 2, c) ^ (row(TABLE + 1, b) ^ row(TABLE, a)))
 }
 
-// Four octets more, and then four that are zero.
-fn four_of_eight(register: u32, word: u32) -> u32
-    ensures { result ≡ bit_steps 64 (bit_xor register word) }
+// Eight octets more, the last of them first. The rows that do not wait for the register come first.
+fn eight(register: u32, octets: &[u8; 8]) -> u32
+    ensures { result ≡ entered register octets.now }
 {
-    let [a, b, c, d] = (register ^ word).to_le_bytes();
-    row(7, d) ^ (row(6, c) ^ (row(5, b) ^ row(4, a)))
+    let [a, b, c, d, e, f, g, h] = *octets;
+    let low = u32::from_le_bytes([a, b, c, d]);
+    let high = u32::from_le_bytes([e, f, g, h]);
+    four::<0>(0, low) ^ four::<4>(register, high)
 }
 
-// Eight octets more: those of `high` enter first. The rows that do not wait for the register come first.
-fn eight(register: u32, high: u32, low: u32) -> u32
-    ensures { result ≡ bit_steps 32 (bit_xor (bit_steps 32 (bit_xor register high)) low) }
+// What is left in the register after all octets.
+fn remainder(octets: &[u8]) -> u32
+    ensures { result ≡ remainder octets.now }
 {
-    four(0, low) ^ four_of_eight(register, high)
+    let (lowest, eights) = octets.as_rchunks::<8>();
+    let register = eights.iter().rev().fold(1, eight);
+    lowest.iter().rev().copied().fold(register, one)
 }
 
 // The signature of any octets.
 pub fn signature(octets: &[u8]) -> u32
     ensures { result ≡ signature octets.now }
 {
-    let mut register = 1;
-    let mut left = octets.len();
-    while left >= 8 {
-        left -= 8;
-        let low = u32::from_le_bytes([
-            octets[left],
-            octets[left + 1],
-            octets[left + 2],
-            octets[left + 3],
-        ]);
-        let high = u32::from_le_bytes([
-            octets[left + 4],
-            octets[left + 5],
-            octets[left + 6],
-            octets[left + 7],
-        ]);
-        register = eight(register, high, low);
-    }
-    for i in (0..left).rev() {
-        register = one(register, octets[i]);
-    }
+    let register = remainder(octets);
     if register == 0 { 1 } else { register }
 }

@@ -1,88 +1,93 @@
--- Reading a number digit by digit.
-use Rattle.std.proofs.Common.{◌≡◌, ℕ, zero, suc, ◌+◌, ◌*◌, ◌^◌, ◌<◌, ◌≤◌, ◌&&◌, eqb, ltb, List, [], ◌∷◌, length, get_or, drop, Some, None, Option, sym, refl, ap, ◌∙◌, arith}
-use Rattle.std.proofs.lemmas.List.{at_drop_more, at_drop_all}
-use Rattle.std.proofs.lemmas.Bool.{le-ltb, lt-ltb, eq-eqb, and_from, cond-true, cond-false, cond_both}
+-- The library's reading of a number is ours, where no plus sign stands first.
+use Rattle.std.proofs.Common.{◌≡◌, ℕ, ◌+◌, ◌*◌, ◌^◌, ◌<◌, ◌≤◌, ℤ, pos, neg_ℤ, ◌≢◌, eqb, List, [], ◌∷◌, get_or, drop, w16, Ok, Err, Result, Some, None, Option, sym, refl, ap, ◌∙◌, inl, inr, arith}
+use Rattle.std.specs.Prelude.{◌↔◌}
+use Rattle.std.specs.Option.{option_map}
+use Rattle.std.specs.Result.{result_ok, OkIff}
+use Rattle.std.specs.Char.{digit_value as letter_value}
+use Rattle.std.specs.Str.Parse.{AllDigits, IsNumeral, ParsesUnsigned, ParsesSigned, digits_value, digits_value_after}
+use Rattle.std.proofs.lemmas.Bool.{cases_lt, cases_eq, eq-eqb, ne_eqb, cond-true, cond-false}
 use Rattle.std.proofs.lemmas.Bool.Decides.{nat_tests}
+use Rattle.std.proofs.lemmas.Iterator.Adapters.{option_map_id}
+use Rattle.std.proofs.lemmas.Str.Parse.{IsNumeralModel, numerals_by_value, tells_digits, without_leading_plus_none, parse_signed_minus, parse_signed_plain}
 use Rattle.text.specs.Digit.{digit_value}
-use Rattle.text.specs.Number.{below, appended, continued, numeral, number, positive, negative, integer}
+use Rattle.text.specs.Number.{below, appended, continued, numeral, positive, negative, integer}
 
--- no number, or one that reaches the limit
-abbrev pub Beyond : ℕ → Option ℕ → Type 0
-Beyond limit None = Unit {0}
-Beyond limit (Some n) = limit ≤ n
+digit_read : (r n c : ℕ) → r ≤ 16 → letter_value c < r → appended r n (digit_value c) ≡ Some (n * r + letter_value c)
+digit_read r n c h l = grind (arith, nat_tests)
 
-pub beyond : (limit : ℕ) (o : Option ℕ) → below limit o ≡ None → Beyond limit o
-beyond limit None h = tt
-beyond limit (Some n) h = grind (arith, nat_tests)
+digit_none : (r n c : ℕ) → r ≤ 16 → r ≤ letter_value c → appended r n (digit_value c) ≡ None
+digit_none r n c h l = grind (arith, nat_tests)
 
-grown : (limit r n d : ℕ) → 0 < r → limit ≤ n → limit ≤ n * r + d
-grown limit zero n d p h = absurd (omega arith)
-grown limit (suc r) n d p h = omega arith
+all_read : (r n : ℕ) (s : List ℕ) → r ≤ 16 → AllDigits r s → continued r (Some n) s ≡ Some (digits_value_after r n s)
+all_read r n [] h d = refl
+all_read r n (c ∷ s) h d =
+    ap (λ o. continued r o s) (digit_read r n c h d.0) ∙ all_read r (n * r + letter_value c) s h d.1
 
-beyond_appended : (limit r n : ℕ) (d : Option ℕ) → 0 < r → limit ≤ n → Beyond limit (appended r n d)
-beyond_appended limit r n None p h = tt
-beyond_appended limit r n (Some d) p h =
-    cond_both (ltb d r) (Some (n * r + d)) None (Beyond limit) (λ _. grown limit r n d p h) (λ _. tt)
+all_digits : (r n m : ℕ) (s : List ℕ) → r ≤ 16 → continued r (Some n) s ≡ Some m → AllDigits r s
+all_digits r n m [] h e = tt
+all_digits r n m (c ∷ s) h e =
+    elim (cases_lt (letter_value c) r) [
+      | inl less ↦
+          (less, all_digits r (n * r + letter_value c) m s h (sym (ap (λ o. continued r o s) (digit_read r n c h less)) ∙ e))
+      | inr not_less ↦ cc (sym (ap (λ o. continued r o s) (digit_none r n c h not_less)) ∙ e)
+    ]
 
--- more digits do not bring a number back below the limit
-pub stays_beyond : (limit r : ℕ) (o : Option ℕ) (s : List ℕ) → 0 < r → Beyond limit o → below limit (continued r o s) ≡ None
-stays_beyond limit r None s p h = refl
-stays_beyond limit r (Some n) [] p h = cond-false (ltb n limit) (Some n) None (le-ltb n limit h)
-stays_beyond limit r (Some n) (c ∷ s) p h =
-    stays_beyond limit r (appended r n (digit_value c)) s p (beyond_appended limit r n (digit_value c) p h)
+numeral_read : (r : ℕ) (s : List ℕ) → r ≤ 16 → IsNumeral r s → numeral r s ≡ Some (digits_value r s)
+numeral_read r [] h d = absurd (omega (arith, d.0))
+numeral_read r (c ∷ s) h d = all_read r 0 (c ∷ s) h d.1
 
--- before the first digit
-pub started : (r : ℕ) (s : List ℕ) → (length s ≡ 0 → ⊥) → continued r (Some 0) s ≡ numeral r s
-started r [] h = absurd (h refl)
-started r (c ∷ s) h = refl
+is_numeral : (r m : ℕ) (s : List ℕ) → r ≤ 16 → numeral r s ≡ Some m → IsNumeral r s
+is_numeral r m [] h e = cc e
+is_numeral r m (c ∷ s) h e = (omega arith, all_digits r 0 m (c ∷ s) h e)
 
--- one more digit
-pub one_more : (r n : ℕ) (s : List ℕ) (i : ℕ) → i < length s
-    → continued r (Some n) (drop i s) ≡ continued r (appended r n (digit_value (get_or s i 0))) (drop (i + 1) s)
-one_more r n s i h = at_drop_more (continued r (Some n)) s i 0 h
+none_below : (limit : ℕ) (o : Option ℕ) → ((n : ℕ) → o ≡ Some n → n < limit → ⊥) → below limit o ≡ None
+none_below limit None h = refl
+none_below limit (Some n) h =
+    elim (cases_lt n limit) [
+      | inl less ↦ absurd (h n refl less)
+      | inr not_less ↦ grind (arith, nat_tests)
+    ]
 
-kept : (limit m : ℕ) (o : Option ℕ) → below limit o ≡ Some m → o ≡ Some m
-kept limit m None e = grind arith
-kept limit m (Some n) e = grind (arith, nat_tests)
+some_below : (limit n : ℕ) → n < limit → below limit (Some n) ≡ Some n
+some_below limit n h = grind (arith, nat_tests)
 
-pub is_below : (limit m : ℕ) (o : Option ℕ) → below limit o ≡ Some m → m < limit
-is_below limit m None e = absurd (grind arith)
-is_below limit m (Some n) e = grind (arith, nat_tests)
+-- what the library's reading answers: f of the number, where the digits write one that is below the limit
+pub read : {A E : Type 0} (r limit : ℕ) (s : List ℕ) (f : ℕ → A) (P : Type 0) (q : Result A E) → r ≤ 16
+    → P ↔ (IsNumeral r s × (digits_value r s < limit)) → OkIff q P (f (digits_value r s))
+    → result_ok q ≡ option_map f (below limit (numeral r s))
+read r limit s f P (Ok x) h same ok =
+    let fits = same.0 ok.0 in
+    ap Some ok.1 ∙ sym (ap (option_map f) (ap (below limit) (numeral_read r s h fits.0) ∙ some_below limit (digits_value r s) fits.1))
+read r limit s f P (Err e) h same err =
+    sym (ap (option_map f) (none_below limit (numeral r s) (λ n is less.
+    let digits = is_numeral r n s h is in
+    let value : digits_value r s ≡ n = cc (sym (numeral_read r s h digits) ∙ is) in
+    err (same.1 (digits, omega (arith, value, less))))))
 
--- one more digit, and the number is still below the limit
-pub still_below : (limit r n m : ℕ) (s : List ℕ) (i : ℕ) → i < length s
-    → below limit (appended r n (digit_value (get_or s i 0))) ≡ Some m
-    → continued r (Some m) (drop (i + 1) s) ≡ continued r (Some n) (drop i s)
-still_below limit r n m s i h e =
-    sym (one_more r n s i h ∙ ap (λ o. continued r o (drop (i + 1) s)) (kept limit m (appended r n (digit_value (get_or s i 0))) e))
+-- without a sign
+pub read_unsigned : {E : Type 0} (r : ℕ) (s : List ℕ) (q : Result ℕ E) → r ≤ 16 → get_or s 0 0 ≢ 43
+    → ParsesUnsigned 64 r s q → result_ok q ≡ below (2 ^ 64) (numeral r s)
+read_unsigned r s q h no_plus parsed =
+    let plain = rw (without_leading_plus_none s no_plus) at parsed in
+    read r (2 ^ 64) s (λ n. n) (IsNumeral r s × (digits_value r s < 2 ^ 64)) q h (λ p. p, λ p. p) plain
+    ∙ option_map_id (below (2 ^ 64) (numeral r s))
 
--- a letter that is no digit, or a digit too many
-pub no_number : (limit r n : ℕ) (s : List ℕ) (i : ℕ) → 0 < r → i < length s
-    → below limit (appended r n (digit_value (get_or s i 0))) ≡ None → below limit (continued r (Some n) (drop i s)) ≡ None
-no_number limit r n s i p h e =
-    let o : Option ℕ = appended r n (digit_value (get_or s i 0)) in
-    ap (below limit) (one_more r n s i h) ∙ stays_beyond limit r o (drop (i + 1) s) p (beyond limit o e)
+own : IsNumeralModel (AllDigits 10) (digits_value 10)
+own = numerals_by_value (AllDigits 10) tells_digits
 
--- after the last digit
-pub ended : (limit r n : ℕ) (s : List ℕ) (i : ℕ) → length s ≤ i → n < limit → below limit (continued r (Some n) (drop i s)) ≡ Some n
-ended limit r n s i h l =
-    ap (below limit) (at_drop_all (continued r (Some n)) s i h) ∙ cond-true (ltb n limit) (Some n) None (lt-ltb n limit l)
-
--- after 0x the rest is hexadecimal
-pub after_0x : (s : List ℕ) → get_or s 0 0 ≡ 48 → get_or s 1 0 ≡ 120 → number s ≡ below (2 ^ 64) (numeral 16 (drop 2 s))
-after_0x s e f =
-    ap (below (2 ^ 64)) (cond-true (eqb (get_or s 0 0) 48 && eqb (get_or s 1 0) 120) (numeral 16 (drop 2 s)) (numeral 10 s)
-    (and_from (eqb (get_or s 0 0) 48) (eqb (get_or s 1 0) 120) (eq-eqb (get_or s 0 0) 48 e) (eq-eqb (get_or s 1 0) 120 f)))
-
--- after a minus sign the rest is a number below zero
-pub after_minus : (s : List ℕ) → get_or s 0 0 ≡ 45 → integer s ≡ negative (numeral 10 (drop 1 s))
-after_minus s e =
-    cond-true (eqb (get_or s 0 0) 45) (negative (numeral 10 (drop 1 s))) (positive (numeral 10 s)) (eq-eqb (get_or s 0 0) 45 e)
-
--- a number below 2 ^ 64 stands for itself, and one that is not is too large
-pub negative_kept : (m : ℕ) (o : Option ℕ) → below (2 ^ 64) o ≡ Some m → negative (Some m) ≡ negative o
-negative_kept m o e = ap negative (sym (kept (2 ^ 64) m o e))
-
-pub negative_none : (o : Option ℕ) → below (2 ^ 64) o ≡ None → negative o ≡ None
-negative_none None e = refl
-negative_none (Some n) e = grind (arith, nat_tests)
+-- with a minus sign or without
+pub read_signed : {E : Type 0} (s : List ℕ) (q : Result ℤ E) → get_or s 0 0 ≢ 43 → ParsesSigned w16 10 s q
+    → result_ok q ≡ integer s
+read_signed s q no_plus parsed =
+    elim (cases_eq (get_or s 0 0) 45) [
+      | inl minus ↦
+          read 10 32769 (drop 1 s) (λ n. neg_ℤ (pos n)) _ q (omega arith)
+          (λ p. ((p.1, p.0), omega (arith, p.2)), λ p. (p.0.1, p.0.0, omega (arith, p.1)))
+          (parse_signed_minus own w16 s q parsed minus)
+          ∙ sym (cond-true (eqb (get_or s 0 0) 45) (negative (numeral 10 (drop 1 s))) (positive (numeral 10 s)) (eq-eqb (get_or s 0 0) 45 minus))
+      | inr no_minus ↦
+          read 10 32768 s pos _ q (omega arith)
+          (λ p. ((p.1, p.0), p.2), λ p. (p.0.1, p.0.0, p.1))
+          (parse_signed_plain own w16 s q parsed no_plus no_minus)
+          ∙ sym (cond-false (eqb (get_or s 0 0) 45) (negative (numeral 10 (drop 1 s))) (positive (numeral 10 s)) (ne_eqb (get_or s 0 0) 45 no_minus))
+    ]

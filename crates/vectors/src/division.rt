@@ -13,7 +13,7 @@ const DIVISOR: u64 = 0x1_F4AC_FB13;
 impl Division {
     fn enter(&mut self, bit: u64) {
         let first = u64::from(self.start >> 31);
-        self.start = self.start << 1;
+        self.start <<= 1;
         let window = (self.window << 1) | (bit ^ first);
         self.window = if window & 0x1_0000_0000 == 0 {
             window
@@ -30,13 +30,13 @@ pub fn divided(octets: &[u8]) -> u32 {
         start: 1,
     };
     for octet in octets.iter().rev() {
-        for place in 0..8u32 {
-            division.enter(u64::from((*octet >> (7 - place)) & 1));
+        for place in (0..8u32).rev() {
+            division.enter(u64::from((*octet >> place) & 1));
         }
     }
     for _ in 0..32u32 {
         division.enter(0);
     }
     let remainder = (division.window & 0xFFFF_FFFF) as u32;
-    if remainder == 0 { 1 } else { remainder }
+    remainder.max(1)
 }

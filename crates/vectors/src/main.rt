@@ -9,18 +9,14 @@ mod tally;
 
 use tally::Tally;
 
-fn run(rt: &HostRuntime) -> anyhow::Result<()> {
-    let mut tally = Tally::new();
-    identities::levels(rt, &mut tally)?;
-    identities::example(rt, &mut tally)?;
-    signatures::examples(rt, &mut tally)?;
-    signatures::divided_twice(rt, &mut tally)?;
-    encodings::meters(rt, &mut tally)?;
-    encodings::draws(rt, &mut tally)?;
-    encodings::messages(rt, &mut tally)?;
-    tally.end(rt)
-}
-
 fn main(rt: HostRuntime) -> anyhow::Result<()> {
-    run(&rt)
+    let mut tally = Tally::new(&rt);
+    identities::levels(&mut tally)?;
+    identities::example(&mut tally)?;
+    signatures::examples(&mut tally)?;
+    signatures::divided_twice(&mut tally)?;
+    encodings::meters(&mut tally)?;
+    encodings::draws(&mut tally)?;
+    encodings::messages(&mut tally)?;
+    tally.end()
 }

@@ -39,40 +39,32 @@ fn stream() -> [u8; MOST] {
     octets
 }
 
-pub fn examples(rt: &HostRuntime, tally: &mut Tally) -> io::Result<()> {
+pub fn examples(tally: &mut Tally) -> io::Result<()> {
     tally.number(
-        rt,
-        "signature of the worked example",
+        &"signature of the worked example",
         0xE2E8_6173,
         signature(&EXAMPLE),
     )?;
     let octets = stream();
     for (length, expected) in STOCK {
-        let came = signature(first(&octets, length));
-        let name = format!(in rt.alloc(); "signature of {length} octets of the stream")?;
-        tally.number(rt, name.as_str(), expected, came)?;
+        let came = signature(&octets[..length.min(MOST)]);
+        let name = format_args!("signature of {length} octets of the stream");
+        tally.number(&name, expected, came)?;
     }
     Ok(())
 }
 
-fn first(octets: &[u8], length: usize) -> &[u8] {
-    if length > octets.len() {
-        return octets;
-    }
-    &octets[0..length]
+// Every length up to 64, and then every fifteenth.
+fn is_tried(length: &usize) -> bool {
+    *length <= 64 || *length % 15 == 0
 }
 
-// Every length up to 64, and then every fifteenth.
-pub fn divided_twice(rt: &HostRuntime, tally: &mut Tally) -> io::Result<()> {
+pub fn divided_twice(tally: &mut Tally) -> io::Result<()> {
     let octets = stream();
-    let mut same = true;
-    let mut times = 0usize;
-    for length in 0..MOST + 1 {
-        if length <= 64 || length % 15 == 0 {
-            let message = first(&octets, length);
-            same &= signature(message) == divided(message);
-            times = times.saturating_add(1);
-        }
-    }
-    tally.agrees(rt, "signatures by tables and by long division", times, same)
+    let times = (0..=MOST).filter(is_tried).count();
+    let same = (0..=MOST).filter(is_tried).all(|length| {
+        let message = &octets[..length.min(MOST)];
+        signature(message) == divided(message)
+    });
+    tally.agrees("signatures by tables and by long division", times, same)
 }

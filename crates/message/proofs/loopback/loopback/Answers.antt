@@ -1,12 +1,11 @@
 use Rattle.std.proofs.Common.{Err, sym, ap, ◌∙◌, arith}
 use Rattle.std.proofs.lemmas.Result.{err_from_is_err_and}
-use Rattle.message.specs.Response.{response_of}
 use Rattle.message.proofs.Loops.{loop_ok, loop_judged, loop_read}
 use Rattle.message.proofs.loopback.loopback.Goals as goal
 
 pub returns-in_err-checked : goal.returns-in_err-checked
 returns-in_err-checked g c =
-    let r = response_of c.args.safety_data c.args.flags c.args.consumer_id c.args.monitoring_number in
+    let r = c.args.response in
     let out = err_from_is_err_and c.from_residual-in_err-checked.result c.from_residual-in_err-checked.ensures.1 in
     record {
       answer = out.1 ∙ ap Err out.2
@@ -19,7 +18,7 @@ returns-in_err-checked g c =
 
 pub returns-in_err-safety_data : goal.returns-in_err-safety_data
 returns-in_err-safety_data g c =
-    let r = response_of c.args.safety_data c.args.flags c.args.consumer_id c.args.monitoring_number in
+    let r = c.args.response in
     absurd (loop_read g.K.RecordKind.format g.met.K.RecordKind.lawful c.args.parameters.now r (omega arith) (omega arith)
     c.args.buffer.now c.build.new.buffer c.in_ok-end.end
     (sym c.build.ensures.answer ∙ c.in_ok-end.was) c.build.ensures.written
@@ -27,7 +26,7 @@ returns-in_err-safety_data g c =
 
 pub returns : goal.returns
 returns g c =
-    let r = response_of c.args.safety_data c.args.flags c.args.consumer_id c.args.monitoring_number in
+    let r = c.args.response in
     record {
       answer = loop_ok g.K.RecordKind.format g.met.K.RecordKind.lawful c.args.parameters.now r (omega arith) (omega arith)
           c.args.buffer.now c.build.new.buffer c.in_ok-end.end

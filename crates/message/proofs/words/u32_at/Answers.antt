@@ -1,6 +1,8 @@
-use Rattle.std.proofs.Common.{◌∙◌}
-use Rattle.message.proofs.Fours.{word_read}
+use Rattle.std.proofs.Common.{◌∙◌, arith}
+use Rattle.message.proofs.Fours.{chunk_read}
 use Rattle.message.proofs.words.u32_at.Goals as goal
 
 pub returns : goal.returns
-returns c = c.from_le_bytes.ensures ∙ word_read c.args.octets.now c.args.at c.requires
+returns c =
+    let read = rw c.unwrap.ensures at c.try_into.ensures in
+    c.from_le_bytes.ensures ∙ chunk_read c.args.octets.now c.unwrap.result c.args.at _ (omega arith) read.1

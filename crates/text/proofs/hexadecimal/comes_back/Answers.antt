@@ -1,6 +1,6 @@
 use Rattle.std.proofs.Common.{ap, ◌∙◌}
 use Rattle.text.specs.Hexadecimal.{octets_read}
-use Rattle.text.proofs.ComesBack.{octets_come_back}
+use Rattle.text.proofs.Pairs.{octets_come_back}
 use Rattle.text.proofs.hexadecimal.comes_back.Goals as goal
 
 pub returns : goal.returns

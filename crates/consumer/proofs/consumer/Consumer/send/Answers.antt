@@ -5,8 +5,8 @@ use Rattle.consumer.specs.Cycled.{SentSo}
 use Rattle.consumer.proofs.Meeting.{sent_so}
 use Rattle.consumer.proofs.consumer.Consumer.send.Goals as goal
 
-pub returns : goal.returns
-returns g c =
+pub returns-in-Some : goal.returns-in-Some
+returns-in-Some g c =
     let k = g.C.Carrier.lanes c.args.carrier.now in
     let l = g.C.Carrier.lanes c.place.new.self in
     subst (λ q. SentSo k q l) (sym c.in-Some.is)

@@ -9,9 +9,8 @@ returns g c =
     let ok = sym c.encode.ensures.answer ∙ c.in_ok-encode.was in
     record {
       answer = build_ok f laws c.args.parameters.now c.args.self.now c.args.buffer.now c.in_ok-encode.field-0
-          c.if-buffer-lt-LONGEST.false ok c.octet_length-size.result c.octet_length-size.ensures;
+          c.if-buffer-lt-LONGEST.false ok c.LENGTH-size.result (c.LENGTH-size.ensures ∙ g.met.K.RecordKind.length_is);
       written = build_done f laws c.args.parameters.now c.args.self.now c.args.buffer.now c.in_ok-encode.field-0
-          c.if-buffer-lt-LONGEST.false ok c.octet_length-size.result c.octet_length-size.ensures
-          c.encode.new.out c.finish.new.buffer c.octet.result c.of-identities.result c.encode.ensures.written
-          c.octet.ensures c.of-identities.ensures c.finish.ensures;
+          c.if-buffer-lt-LONGEST.false ok c.LENGTH-size.result (c.LENGTH-size.ensures ∙ g.met.K.RecordKind.length_is)
+          c.encode.new.out c.finish.new.buffer c.of.result c.encode.ensures.written c.of.ensures c.finish.ensures;
     }
