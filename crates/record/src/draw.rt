@@ -1,6 +1,8 @@
 ghost use Rattle.std.specs.Prelude.{◌≡◌, refl};
 ghost use Rattle.record.specs.Draws.{draw_format, double_read, number_sound, number_written, draw_written};
 ghost use Rattle.record.specs.DrawsLemmas.{draw_lawful};
+ghost use Rattle.record.specs.declared.fault.RecordCause.TheVariants.{NotFinite};
+ghost use Rattle.std.specs.Option.{ok_or};
 
 use crate::fault::{EncodeRefusal, RecordCause, RecordFault};
 use crate::kind::RecordKind;
@@ -21,6 +23,16 @@ fn finite_double(bits: u64) -> Option<f64>
 {
     let x = f64_from_bits_with_nan(bits);
     x.is_finite().then_some(x)
+}
+
+// The number of these bits, as a record has it.
+fn number(bits: u64) -> Result<f64, RecordFault>
+    ensures { result ≡ ok_or (double_read bits) (record { cause = NotFinite; place = 1 }) }
+{
+    finite_double(bits).ok_or(RecordFault {
+        cause: RecordCause::NotFinite,
+        place: 1,
+    })
 }
 
 // Can the number be sent?
@@ -91,18 +103,14 @@ impl RecordKind for Draw {
     fn decode(octets: &[u8]) -> Result<Draw, RecordFault> {
         let [tag, b0, b1, b2, b3, b4, b5, b6, b7] = *whole::<9>(octets)?;
         let bits = u64::from_le_bytes([b0, b1, b2, b3, b4, b5, b6, b7]);
-        let number = finite_double(bits).ok_or(RecordFault {
-            cause: RecordCause::NotFinite,
-            place: 1,
-        });
         match tag {
             0 if bits == 0 => Ok(Draw::Stop),
             0 => Err(RecordFault {
                 cause: RecordCause::NotZero,
                 place: 1,
             }),
-            1 => Ok(Draw::Run(number?)),
-            2 => Ok(Draw::Preset(number?)),
+            1 => Ok(Draw::Run(number(bits)?)),
+            2 => Ok(Draw::Preset(number(bits)?)),
             _ => Err(RecordFault {
                 cause: RecordCause::Tag,
                 place: 0,

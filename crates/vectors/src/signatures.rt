@@ -61,10 +61,12 @@ fn is_tried(length: &usize) -> bool {
 
 pub fn divided_twice(tally: &mut Tally) -> io::Result<()> {
     let octets = stream();
-    let times = (0..=MOST).filter(is_tried).count();
-    let same = (0..=MOST).filter(is_tried).all(|length| {
+    let mut times = 0usize;
+    let mut same = true;
+    for length in (0..=MOST).filter(is_tried) {
         let message = &octets[..length.min(MOST)];
-        signature(message) == divided(message)
-    });
+        same &= signature(message) == divided(message);
+        times = times.saturating_add(1);
+    }
     tally.agrees("signatures by tables and by long division", times, same)
 }

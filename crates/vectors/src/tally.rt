@@ -27,7 +27,7 @@ impl Display for Octets<'_> {
 }
 
 // Prints what is compared, and counts the vectors and how many of them differ.
-#[derive(Drop)]
+#[derive(Clone, Copy)]
 pub struct Tally<'a> {
     rt: &'a HostRuntime,
     compared: u32,
