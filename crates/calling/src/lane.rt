@@ -1,11 +1,12 @@
 ghost use Rattle.std.specs.Prelude.{◌≡◌, ◌*◌, ◌≤◌, length};
 ghost use Rattle.calling.specs.Chains.{no_slots};
 ghost use Rattle.calling.specs.Lane.{Appends, Takes, Formatted};
+ghost use Rattle.calling.specs.Memory.{whole_slots};
 ghost use Rattle.calling.specs.Slots.{slot_octets};
 ghost use Rattle.message.specs.Response.{longest};
 
 use crate::chains::Heads;
-use crate::memory::SLOT;
+use crate::memory::{SLOT, is_whole};
 use crate::slot::{copy_out, fill_slot, link_slot, next, slot_at};
 use carrier::lane::PlaceRefusal;
 use carrier::sendable::Sendable;
@@ -30,30 +31,43 @@ impl<'a> Model for SlotLane<'a> {
 
 impl<'a> SlotLane<'a> {
     // Nothing is written to the memory, and no slot is in use.
-    pub(crate) fn new(memory: &'a mut [u8]) -> SlotLane<'a>
+    pub fn new(memory: &'a mut [u8]) -> SlotLane<'a>
         ensures { result ≡ record { octets = memory.old; heads = no_slots } }
     {
         let heads = Heads::default();
         SlotLane { memory, heads }
     }
 
-    // Chains every slot of the memory as a free one.
-    pub(crate) fn formatted(memory: &'a mut [u8]) -> SlotLane<'a>
-        requires { length memory.old ≤ 16 * slot_octets }
-        ensures { Formatted memory.old result }
+    pub(crate) fn is_whole(&self) -> bool
+        ensures { result ≡ whole_slots (length self.now.octets) }
     {
+        is_whole(self.memory)
+    }
+
+    // Chains every slot of the memory as a free one.
+    pub(crate) fn format(&mut self)
+        requires { length self.old.octets ≤ 16 * slot_octets }
+        ensures { Formatted self.old.octets self.new }
+    {
+        let memory = &mut *self.memory;
         let slots = (memory.len() / SLOT) as u16;
         let mut free = 0;
         for k in (1..=slots).rev() {
             link_slot(memory, k, free);
             free = k;
         }
-        let heads = Heads {
+        self.heads = Heads {
             slots,
             free,
             ..Heads::default()
         };
-        SlotLane { memory, heads }
+    }
+
+    // Uses no slot from now on; the memory stands.
+    pub(crate) fn close(&mut self)
+        ensures { self.new ≡ record { octets = self.old.octets; heads = no_slots } }
+    {
+        self.heads = Heads::default();
     }
 
     pub(crate) fn slots(&self) -> u16

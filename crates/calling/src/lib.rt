@@ -8,7 +8,7 @@ ghost use Rattle.carrier.specs.Place.{Placed};
 ghost use Rattle.carrier.specs.Fetch.{Fetched};
 
 mod chains;
-mod lane;
+pub mod lane;
 pub mod memory;
 mod slot;
 
@@ -16,7 +16,6 @@ use carrier::Carrier;
 use carrier::lane::{FetchRefusal, Lane, PlaceRefusal};
 use carrier::sendable::Sendable;
 use lane::SlotLane;
-use memory::is_whole;
 use message::response::LONGEST;
 
 // Messages are placed and fetched by calls at both ends; a fetched message is gone.
@@ -34,17 +33,26 @@ impl<'m, 'n> Calling<'m, 'n> {
         ensures stands { both_whole up.old down.old ≡ false
             → (result.up.octets ≡ up.old) × (result.down.octets ≡ down.old) }
     {
-        let whole = is_whole(up) && is_whole(down);
+        Calling::over(SlotLane::new(up), SlotLane::new(down))
+    }
+
+    // Both lanes are made anew, and empty, whatever they held. If either memory is not 1 to 16 whole slots, the carrier takes
+    // and brings nothing, and neither memory is ever written.
+    #[tactic(auto, using(crate::proofs::Meanings::closed))]
+    pub fn over(mut up: SlotLane<'m>, mut down: SlotLane<'n>) -> Calling<'m, 'n>
+        ensures means { meaning result ≡ made_over up.entry.octets down.entry.octets }
+        ensures stands { both_whole up.entry.octets down.entry.octets ≡ false
+            → (result.up.octets ≡ up.entry.octets) × (result.down.octets ≡ down.entry.octets) }
+    {
+        let whole = up.is_whole() && down.is_whole();
         if !whole {
-            return Calling {
-                up: SlotLane::new(up),
-                down: SlotLane::new(down),
-            };
+            up.close();
+            down.close();
+            return Calling { up, down };
         }
-        Calling {
-            up: SlotLane::formatted(up),
-            down: SlotLane::formatted(down),
-        }
+        up.format();
+        down.format();
+        Calling { up, down }
     }
 
     // Do both lanes have slots?

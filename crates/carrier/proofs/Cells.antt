@@ -1,5 +1,5 @@
 -- What a cell holds is a message.
-use Rattle.std.proofs.Common.{◌≡◌, ℕ, ◌≤◌, true, cond, eqb, leb, List, length, Some, None, Ok, Option, sym, refl, ap, ◌∙◌, arith}
+use Rattle.std.proofs.Common.{◌≡◌, ℕ, ◌≤◌, true, false, cond, eqb, leb, List, length, take, Some, None, Ok, Option, sym, refl, ap, ◌∙◌, arith, length-take}
 use Rattle.std.proofs.lemmas.Bool.{le-leb, le-ltb, and_from, cond_both}
 use Rattle.carrier.specs.declared.cell.Cell.{Cell}
 use Rattle.carrier.specs.declared.lane.Lane.{Lane}
@@ -15,8 +15,13 @@ sends m a b = and_from (leb 1 (length m)) (leb (length m) longest) (le-leb 1 (le
 
 pub held_lengthy : (c : Cell) → Lengthy (held c)
 held_lengthy c =
-    cond_both (eqb (length c.octets.items) 0) None (Some c.octets.items) Lengthy (λ _. tt)
-    (λ e. (grind arith, c.fits))
+    let f = c.fits in
+    let w = c.whole in
+    cond_both (eqb c.size 0) None (Some (take c.size c.octets)) Lengthy (λ _. tt)
+    (λ e. let some : 1 ≤ c.size = by_cases c.size e in (simp length-take (omega arith), simp length-take (omega arith)))
+  where
+    by_cases : (n : ℕ) → eqb n 0 ≡ false → 1 ≤ n
+    by_cases n e = grind arith
 
 first_listed : (b : Brought) → first_of (listed b) ≡ b
 first_listed (Some m) = refl

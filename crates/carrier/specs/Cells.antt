@@ -1,6 +1,5 @@
 -- What a cell holds, and what the publishing carrier means.
-use Rattle.std.specs.Prelude.{ℕ, true, cond, List, [], ◌∷◌, length, Some, None, ◌==◌, nat_lt}
-use Rattle.arrayvec.specs.ArrayVec.{array_vec_len}
+use Rattle.std.specs.Prelude.{ℕ, true, cond, List, [], ◌∷◌, length, take, Some, None, ◌==◌, nat_lt}
 use Rattle.carrier.specs.declared.cell.Cell.{Cell}
 use Rattle.carrier.specs.Fetch.{Brought, brought_in}
 use Rattle.carrier.specs.Lanes.{Message, Lanes}
@@ -9,7 +8,7 @@ use Rattle.message.specs.Response.{longest}
 
 -- the message in a cell
 abbrev pub held : Cell → Brought
-held c = cond (array_vec_len c.octets == 0) None (Some c.octets.items)
+held c = cond (c.size == 0) None (Some (take c.size c.octets))
 
 -- a cell keeps a message of lawful length, in the place of the one before
 abbrev pub kept_after : Brought → Message → Brought

@@ -1,13 +1,14 @@
-ghost use Rattle.std.specs.Prelude.{◌≤◌};
-ghost use Rattle.arrayvec.specs.ArrayVec.{array_vec_len};
+ghost use Rattle.std.specs.Prelude.{◌≡◌, ◌≤◌, length};
 ghost use Rattle.message.specs.Response.{longest};
 
-use arrayvec::ArrayVec;
 use message::response::LONGEST;
 
-// A place for one message. No message is without octets, so an empty vector is none.
+// A place for one message, which stands at the start of the octets. No message is without octets, so size 0 is none. It is no
+// `ArrayVec`: that writes blanks over the message before, so that a short message would cost what a long one before it did.
 #[derive(Drop)]
 pub struct Cell {
-    pub(crate) octets: ArrayVec<u8, LONGEST>,
-    ghost fits: { array_vec_len octets ≤ longest },
+    pub(crate) octets: [u8; LONGEST],
+    pub(crate) size: usize,
+    ghost fits: { size ≤ longest },
+    ghost whole: { length octets ≡ longest },
 }

@@ -4,7 +4,6 @@ ghost use Rattle.carrier.specs.Fetch.{length_of};
 
 use crate::cell::Cell;
 use crate::sendable::Sendable;
-use arrayvec::ArrayVec;
 use message::response::LONGEST;
 
 impl Cell {
@@ -12,7 +11,8 @@ impl Cell {
         ensures { held result ≡ None }
     {
         Cell {
-            octets: ArrayVec::new(),
+            octets: [0; LONGEST],
+            size: 0,
         }
     }
 
@@ -20,8 +20,10 @@ impl Cell {
     pub(crate) fn hold(&mut self, message: Sendable)
         ensures { held self.new ≡ Some message.entry.octets.now }
     {
-        self.octets.clear();
-        self.octets.try_extend_from_slice(message.octets()).unwrap();
+        let octets = message.octets();
+        let size = octets.len();
+        self.octets[0..size].copy_from_slice(octets);
+        self.size = size;
     }
 
     // Holds octets that are a message; of no octets or over 1,525 none are held, and nothing changes.
@@ -38,11 +40,11 @@ impl Cell {
         ensures answer { result ≡ length_of (shown (held self.now) buffer.old) }
         ensures buffer { buffer.new ≡ shown_in (held self.now) buffer.old }
     {
-        if self.octets.is_empty() || buffer.len() < LONGEST {
+        if self.size == 0 || buffer.len() < LONGEST {
             return None;
         }
-        let size = self.octets.len();
-        buffer[..size].copy_from_slice(&self.octets);
+        let size = self.size;
+        buffer[0..size].copy_from_slice(&self.octets[0..size]);
         Some(size)
     }
 }

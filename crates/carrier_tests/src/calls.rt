@@ -7,60 +7,56 @@ use calling::memory::{SLOT, check_memory};
 
 #[test]
 fn filled(rt: HostRuntime) {
-    brim(
-        &rt,
+    let answer = brim(
         Calling::new(&mut [BLANK; SLOT], &mut [BLANK; 16 * SLOT]),
         1,
         16,
     );
-    brim(
-        &rt,
+    assert_eq!(rt; answer, Ok(()));
+    let answer = brim(
         Calling::new(&mut [BLANK; 16 * SLOT], &mut [BLANK; SLOT]),
         16,
         1,
     );
+    assert_eq!(rt; answer, Ok(()));
 }
 
 #[test]
 fn wrapped(rt: HostRuntime) {
-    wrap(
-        &rt,
-        Calling::new(&mut [BLANK; 3 * SLOT], &mut [BLANK; 3 * SLOT]),
-    );
+    let answer = wrap(Calling::new(&mut [BLANK; 3 * SLOT], &mut [BLANK; 3 * SLOT]));
+    assert_eq!(rt; answer, Ok(()));
 }
 
 #[test]
 fn whole_and_refused(rt: HostRuntime) {
-    both(
-        &rt,
+    let answer = both(
         Calling::new(&mut [BLANK; SLOT], &mut [BLANK; 2 * SLOT]),
         |bench, lane, other| bench.whole(lane, other),
     );
-    both(
-        &rt,
+    assert_eq!(rt; answer, Ok(()));
+    let answer = both(
         Calling::new(&mut [BLANK; SLOT], &mut [BLANK; 2 * SLOT]),
         |bench, lane, _| bench.refusals(lane),
     );
+    assert_eq!(rt; answer, Ok(()));
 }
 
 #[test]
 fn disturbed(rt: HostRuntime) {
-    follows(
-        &rt,
+    let answer = follows(
         Calling::new(&mut [BLANK; SLOT], &mut [BLANK; 2 * SLOT]),
         &CODES,
         &CODES_ROWS,
     );
-    follows(
-        &rt,
+    assert_eq!(rt; answer, Ok(()));
+    let answer = follows(
         Calling::new(&mut [BLANK; SLOT], &mut [BLANK; 2 * SLOT]),
         &KEEPING,
         &KEEPING_ROWS,
     );
-    uses(
-        &rt,
-        Calling::new(&mut [BLANK; SLOT], &mut [BLANK; 2 * SLOT]),
-    );
+    assert_eq!(rt; answer, Ok(()));
+    let answer = uses(Calling::new(&mut [BLANK; SLOT], &mut [BLANK; 2 * SLOT]));
+    assert_eq!(rt; answer, Ok(()));
 }
 
 // One of the two memories is not whole slots; neither is written.
@@ -71,7 +67,8 @@ fn bad_memories(rt: HostRuntime) {
             let mut up_memory = [BLANK; 17 * SLOT];
             let mut down_memory = [BLANK; 17 * SLOT];
             let carrier = Calling::new(&mut up_memory[..up], &mut down_memory[..down]);
-            both(&rt, carrier, |bench, lane, _| bench.nothing(lane));
+            let answer = both(carrier, |bench, lane, _| bench.nothing(lane));
+            assert_eq!(rt; answer, Ok(()), "{up} {down}");
             let blank = is_blank(&up_memory) && is_blank(&down_memory);
             assert!(rt; blank, "{up} {down}");
         }

@@ -1,12 +1,12 @@
 // What is tried on a disturber over a carrier that holds messages until they are fetched.
-use crate::bench::Bench;
+use crate::bench::Asked::Fills;
+use crate::bench::{Answer, Bench, Missed, answer};
 use crate::common::{damaged, numbered, signed};
 use crate::disturbing::Sent::{Damaged, Sound};
 use carrier::Carrier;
 use carrier::lane::Lane;
 use disturber::Disturber;
 use disturber::script::Script;
-use std::process::Abort;
 
 // What is placed or handed out: the sound message of a number, or the same damaged.
 #[derive(Clone, Copy, Debug)]
@@ -55,41 +55,42 @@ pub(crate) const KEEPING_ROWS: [Row; 10] = [
     (None, Some(Sound(3))),
 ];
 
-// A disturber with these codes does what the rows say.
-pub(crate) fn follows<C: Carrier + Drop>(rt: &impl Abort, below: C, codes: &[u8], rows: &[Row]) {
+// A disturber over this carrier, with these codes.
+fn disturbed<C: Carrier + Drop>(below: C, codes: &[u8]) -> Result<Bench<Disturber<C>>, Missed> {
     let mut script = Script::empty();
-    assert!(rt; script.fill(codes).is_ok());
-    let mut bench = Bench {
-        rt,
+    let filled = script.fill(codes).is_ok();
+    answer(filled, Fills, Lane::Down, codes)?;
+    Ok(Bench {
         carrier: Disturber::new(below, script),
-    };
+    })
+}
+
+// A disturber with these codes does what the rows say.
+pub(crate) fn follows<C: Carrier + Drop>(below: C, codes: &[u8], rows: &[Row]) -> Answer {
+    let mut bench = disturbed(below, codes)?;
     for (placed, handed) in rows {
         if let Some(sent) = placed {
-            bench.takes(Lane::Down, &sent.octets());
+            bench.takes(Lane::Down, &sent.octets())?;
         }
         match handed {
-            Some(sent) => bench.brings(Lane::Down, &sent.octets()),
-            None => bench.is_empty(Lane::Down),
+            Some(sent) => bench.brings(Lane::Down, &sent.octets())?,
+            None => bench.is_empty(Lane::Down)?,
         }
     }
+    Ok(())
 }
 
 // An up fetch uses no code, and neither does one that is refused: the one code loses the first message.
-pub(crate) fn uses<C: Carrier + Drop>(rt: &impl Abort, below: C) {
+pub(crate) fn uses<C: Carrier + Drop>(below: C) -> Answer {
     let request = numbered(Lane::Up, 1);
-    let mut script = Script::empty();
-    assert!(rt; script.fill(&[1]).is_ok());
-    let mut bench = Bench {
-        rt,
-        carrier: Disturber::new(below, script),
-    };
-    bench.takes(Lane::Up, &request);
-    bench.takes(Lane::Down, &signed(1));
-    bench.refuses_short(Lane::Up);
-    bench.refuses_short(Lane::Down);
-    bench.brings(Lane::Up, &request);
-    bench.is_empty(Lane::Up);
-    bench.takes(Lane::Down, &signed(2));
-    bench.is_empty(Lane::Down);
-    bench.brings(Lane::Down, &signed(2));
+    let mut bench = disturbed(below, &[1])?;
+    bench.takes(Lane::Up, &request)?;
+    bench.takes(Lane::Down, &signed(1))?;
+    bench.refuses_short(Lane::Up)?;
+    bench.refuses_short(Lane::Down)?;
+    bench.brings(Lane::Up, &request)?;
+    bench.is_empty(Lane::Up)?;
+    bench.takes(Lane::Down, &signed(2))?;
+    bench.is_empty(Lane::Down)?;
+    bench.brings(Lane::Down, &signed(2))
 }

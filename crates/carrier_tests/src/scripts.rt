@@ -1,5 +1,5 @@
 // Scripts: how many codes, which codes, and that a refused script changes nothing.
-use crate::bench::Bench;
+use crate::bench::{Answer, Bench};
 use crate::common::signed;
 use carrier::lane::Lane;
 use carrier::publishing::Publishing;
@@ -24,6 +24,20 @@ const FILLS: [(&[u8], Option<u8>); 6] = [
 ];
 
 // Over a carrier whose message stands it is handed out and lost in turn, and handed out after the last code.
+fn alternates(script: Script) -> Answer {
+    let mut bench = Bench {
+        carrier: Disturber::new(Publishing::new(), script),
+    };
+    let message = signed(1);
+    bench.takes(Lane::Down, &message)?;
+    for _ in 0..32 {
+        bench.brings(Lane::Down, &message)?;
+        bench.is_empty(Lane::Down)?;
+    }
+    bench.brings(Lane::Down, &message)?;
+    bench.brings(Lane::Down, &message)
+}
+
 #[test]
 fn codes(rt: HostRuntime) {
     let mut script = Script::empty();
@@ -32,16 +46,5 @@ fn codes(rt: HostRuntime) {
         let told = refusal.map(|refusal| refusal.number());
         assert_eq!(rt; told, number, "{codes:?}");
     }
-    let mut bench = Bench {
-        rt: &rt,
-        carrier: Disturber::new(Publishing::new(), script),
-    };
-    let message = signed(1);
-    bench.takes(Lane::Down, &message);
-    for _ in 0..32 {
-        bench.brings(Lane::Down, &message);
-        bench.is_empty(Lane::Down);
-    }
-    bench.brings(Lane::Down, &message);
-    bench.brings(Lane::Down, &message);
+    assert_eq!(rt; alternates(script), Ok(()));
 }

@@ -1,5 +1,5 @@
 -- What the codes of a script stand for, and which codes a script takes.
-use Rattle.std.specs.Prelude.{◌≡◌, ℕ, Bool, true, cond, ◌&&◌, List, [], ◌∷◌, map, length, Ok, Err, Result, ◌==◌, nat_le, nat_lt}
+use Rattle.std.specs.Prelude.{◌≡◌, ℕ, Bool, true, cond, ◌&&◌, List, [], ◌∷◌, map, length, drop, Ok, Err, Result, ◌==◌, nat_le, nat_lt}
 use Rattle.disturber.specs.declared.disturbance.Disturbance.{Disturbance}
 use Rattle.disturber.specs.declared.disturbance.Disturbance.TheVariants.{Pass, Lose, Repeat, Flip}
 use Rattle.disturber.specs.declared.filling.ScriptRefusal.{ScriptRefusal}
@@ -15,7 +15,7 @@ read_code code = cond (nat_le code 3) (Ok (disturbance_of code)) (Err Code)
 
 -- the disturbances of the down fetches to come
 abbrev pub to_come : Script → List Disturbance
-to_come s = s.to_come
+to_come s = drop s.next s.codes.items
 
 -- the disturbance of the next down fetch; after the last code it passes
 abbrev pub next_of : List Disturbance → Disturbance

@@ -35,7 +35,8 @@ impl Script {
         ensures kept { held result.kept ≡ None }
     {
         Script {
-            to_come: ArrayVec::new().into_iter(),
+            next: 0,
+            codes: ArrayVec::new(),
             kept: Cell::empty(),
         }
     }
@@ -47,11 +48,12 @@ impl Script {
         if codes.len() > MOST_CODES {
             return Err(ScriptRefusal::Length);
         }
-        let mut to_come = ArrayVec::new();
+        let mut taken = ArrayVec::new();
         for code in codes {
-            to_come.push(Disturbance::try_from(*code)?);
+            taken.push(Disturbance::try_from(*code)?);
         }
-        self.to_come = to_come.into_iter();
+        self.codes = taken;
+        self.next = 0;
         Ok(())
     }
 
@@ -61,6 +63,10 @@ impl Script {
         ensures moves { to_come self.new ≡ drop 1 (to_come self.old) }
         ensures kept { self.new.kept ≡ self.old.kept }
     {
-        self.to_come.next().unwrap_or(Disturbance::Pass)
+        let Some(&disturbance) = self.codes.get(self.next) else {
+            return Disturbance::Pass;
+        };
+        self.next += 1;
+        disturbance
     }
 }

@@ -1,13 +1,15 @@
 use crate::disturbance::Disturbance;
-use arrayvec::IntoIter;
+use arrayvec::ArrayVec;
 use carrier::cell::Cell;
 
 // No script has more codes.
 pub(crate) const MOST_CODES: usize = 64;
 
-// The disturbances of the down fetches to come, and the message that a disturber keeps.
+// How many of its codes a script has used, the disturbances that they stand for, and the message that a disturber keeps. The
+// number stands first: beside the empty cell the compiler clears both at once, and then a whole disturber for each link.
 #[derive(Drop)]
 pub struct Script {
-    pub(crate) to_come: IntoIter<Disturbance, MOST_CODES>,
+    pub(crate) next: usize,
+    pub(crate) codes: ArrayVec<Disturbance, MOST_CODES>,
     pub(crate) kept: Cell,
 }

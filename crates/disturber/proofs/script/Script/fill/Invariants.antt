@@ -4,6 +4,6 @@ use Rattle.disturber.proofs.script.Script.fill.Given as goal
 
 abbrev pub invariant-loop-code : goal.invariant-loop-code
 invariant-loop-code l = record {
-  taken : l.to_come.items ≡ map disturbance_of (take l.code-index l.codes);
+  taken : l.taken.items ≡ map disturbance_of (take l.code-index l.codes);
   left : are_codes (drop l.code-index l.codes) ≡ are_codes l.codes;
 }

@@ -2,7 +2,7 @@ use Rattle.std.proofs.Common.{◌≡◌, suc, ◌-◌, refl, arith, rules}
 use Rattle.calling.specs.Chains.{no_slots}
 use Rattle.calling.specs.Slots.{slot_of}
 use Rattle.calling.proofs.Formats.{one_more, all_chained}
-use Rattle.calling.proofs.lane.SlotLane.formatted.Goals as goal
+use Rattle.calling.proofs.lane.SlotLane.format.Goals as goal
 
 pub loop-k-init : goal.loop-k-init
 loop-k-init c = (0, omega arith, refl)
@@ -18,8 +18,8 @@ loop-k-preserved c =
           c.link_slot.ensures,
     )
 
-pub invariant_of-result : goal.invariant_of-result
-invariant_of-result c =
+pub invariant_of-self : goal.invariant_of-self
+invariant_of-self c =
     let none : c.default.result ≡ no_slots = search rules in
     rw none (all_chained c.loop-k.memory _ _ _ (omega arith) (omega arith) c.loop-k.invariant).0
 
@@ -27,4 +27,4 @@ pub returns : goal.returns
 returns c =
     let r = all_chained c.loop-k.memory _ _ _ (omega arith) (omega arith) c.loop-k.invariant in
     let none : c.default.result ≡ no_slots = search rules in
-    rw none (record { lawful = r.0; slots = refl; holds = r.1 })
+    rw (none, ← c.self.view_is) (record { lawful = r.0; slots = refl; holds = r.1 })

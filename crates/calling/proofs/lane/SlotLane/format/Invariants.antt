@@ -2,7 +2,7 @@ use Rattle.std.proofs.Common.{◌≡◌, ℕ, ◌+◌}
 use Rattle.calling.specs.Chains.{Chain}
 use Rattle.calling.specs.Slots.{slot_of}
 use Rattle.calling.proofs.Formats.{after}
-use Rattle.calling.proofs.lane.SlotLane.formatted.Given as goal
+use Rattle.calling.proofs.lane.SlotLane.format.Given as goal
 
 -- the slots after k are chained
 abbrev pub invariant-loop-k : goal.invariant-loop-k
