@@ -1,16 +1,85 @@
--- The library's reading of a number is ours, where no plus sign stands first.
-use Rattle.std.proofs.Common.{◌≡◌, ℕ, ◌+◌, ◌*◌, ◌^◌, ◌<◌, ◌≤◌, ℤ, pos, neg_ℤ, ◌≢◌, eqb, List, [], ◌∷◌, get_or, drop, w16, Ok, Err, Result, Some, None, Option, sym, refl, ap, ◌∙◌, inl, inr, arith}
+-- Reading a number digit by digit, and by the library.
+use Rattle.std.proofs.Common.{◌≡◌, ℕ, zero, suc, ◌+◌, ◌*◌, ◌^◌, ◌<◌, ◌≤◌, ◌≢◌, eqb, ltb, List, [], ◌∷◌, ◌++◌, length, get_or, drop, Ok, Err, Result, Some, None, Option, sym, refl, ap, ◌∙◌, inl, inr, arith}
+use lib.Utf8.{encode}
 use Rattle.std.specs.Prelude.{◌↔◌}
 use Rattle.std.specs.Option.{option_map}
 use Rattle.std.specs.Result.{result_ok, OkIff}
 use Rattle.std.specs.Char.{digit_value as letter_value}
-use Rattle.std.specs.Str.Parse.{AllDigits, IsNumeral, ParsesUnsigned, ParsesSigned, digits_value, digits_value_after}
-use Rattle.std.proofs.lemmas.Bool.{cases_lt, cases_eq, eq-eqb, ne_eqb, cond-true, cond-false}
+use Rattle.std.specs.Str.Parse.{AllDigits, IsNumeral, ParsesUnsigned, digits_value, digits_value_after}
+use Rattle.std.proofs.lemmas.List.{at_drop_more, at_drop_all}
+use Rattle.std.proofs.lemmas.Bool.{cases_lt, ne_eqb, le-ltb, lt-ltb, cond-true, cond-false, cond_both}
 use Rattle.std.proofs.lemmas.Bool.Decides.{nat_tests}
 use Rattle.std.proofs.lemmas.Iterator.Adapters.{option_map_id}
-use Rattle.std.proofs.lemmas.Str.Parse.{IsNumeralModel, numerals_by_value, tells_digits, without_leading_plus_none, parse_signed_minus, parse_signed_plain}
+use Rattle.std.proofs.lemmas.Str.Parse.{without_leading_plus_none}
 use Rattle.text.specs.Digit.{digit_value}
 use Rattle.text.specs.Number.{below, appended, continued, numeral, positive, negative, integer}
+
+-- no number, or one that reaches the limit
+abbrev pub Beyond : ℕ → Option ℕ → Type 0
+Beyond limit None = Unit {0}
+Beyond limit (Some n) = limit ≤ n
+
+pub beyond : (limit : ℕ) (o : Option ℕ) → below limit o ≡ None → Beyond limit o
+beyond limit None h = tt
+beyond limit (Some n) h = grind (arith, nat_tests)
+
+grown : (limit r n d : ℕ) → 0 < r → limit ≤ n → limit ≤ n * r + d
+grown limit zero n d p h = absurd (omega arith)
+grown limit (suc r) n d p h = omega arith
+
+beyond_appended : (limit r n : ℕ) (d : Option ℕ) → 0 < r → limit ≤ n → Beyond limit (appended r n d)
+beyond_appended limit r n None p h = tt
+beyond_appended limit r n (Some d) p h =
+    cond_both (ltb d r) (Some (n * r + d)) None (Beyond limit) (λ _. grown limit r n d p h) (λ _. tt)
+
+-- more digits do not bring a number back below the limit
+pub stays_beyond : (limit r : ℕ) (o : Option ℕ) (s : List ℕ) → 0 < r → Beyond limit o → below limit (continued r o s) ≡ None
+stays_beyond limit r None s p h = refl
+stays_beyond limit r (Some n) [] p h = cond-false (ltb n limit) (Some n) None (le-ltb n limit h)
+stays_beyond limit r (Some n) (c ∷ s) p h =
+    stays_beyond limit r (appended r n (digit_value c)) s p (beyond_appended limit r n (digit_value c) p h)
+
+-- before the first digit
+pub started : (r : ℕ) (s : List ℕ) → (length s ≡ 0 → ⊥) → continued r (Some 0) s ≡ numeral r s
+started r [] h = absurd (h refl)
+started r (c ∷ s) h = refl
+
+-- one more digit
+pub one_more : (r n : ℕ) (s : List ℕ) (i : ℕ) → i < length s
+    → continued r (Some n) (drop i s) ≡ continued r (appended r n (digit_value (get_or s i 0))) (drop (i + 1) s)
+one_more r n s i h = at_drop_more (continued r (Some n)) s i 0 h
+
+kept : (limit m : ℕ) (o : Option ℕ) → below limit o ≡ Some m → o ≡ Some m
+kept limit m None e = grind arith
+kept limit m (Some n) e = grind (arith, nat_tests)
+
+pub is_below : (limit m : ℕ) (o : Option ℕ) → below limit o ≡ Some m → m < limit
+is_below limit m None e = absurd (grind arith)
+is_below limit m (Some n) e = grind (arith, nat_tests)
+
+-- one more digit, and the number is still below the limit
+pub still_below : (limit r n m : ℕ) (s : List ℕ) (i : ℕ) → i < length s
+    → below limit (appended r n (digit_value (get_or s i 0))) ≡ Some m
+    → continued r (Some m) (drop (i + 1) s) ≡ continued r (Some n) (drop i s)
+still_below limit r n m s i h e =
+    sym (one_more r n s i h ∙ ap (λ o. continued r o (drop (i + 1) s)) (kept limit m (appended r n (digit_value (get_or s i 0))) e))
+
+-- a letter that is no digit, or a digit too many
+pub no_number : (limit r n : ℕ) (s : List ℕ) (i : ℕ) → 0 < r → i < length s
+    → below limit (appended r n (digit_value (get_or s i 0))) ≡ None → below limit (continued r (Some n) (drop i s)) ≡ None
+no_number limit r n s i p h e =
+    let o : Option ℕ = appended r n (digit_value (get_or s i 0)) in
+    ap (below limit) (one_more r n s i h) ∙ stays_beyond limit r o (drop (i + 1) s) p (beyond limit o e)
+
+-- after the last digit
+pub ended : (limit r n : ℕ) (s : List ℕ) (i : ℕ) → length s ≤ i → n < limit → below limit (continued r (Some n) (drop i s)) ≡ Some n
+ended limit r n s i h l =
+    ap (below limit) (at_drop_all (continued r (Some n)) s i h) ∙ cond-true (ltb n limit) (Some n) None (lt-ltb n limit l)
+
+-- a number that is too large for the library is too large for us
+positive_none : (o : Option ℕ) → below (2 ^ 16) o ≡ None → positive o ≡ None
+positive_none None e = refl
+positive_none (Some n) e = grind (arith, nat_tests)
 
 digit_read : (r n c : ℕ) → r ≤ 16 → letter_value c < r → appended r n (digit_value c) ≡ Some (n * r + letter_value c)
 digit_read r n c h l = grind (arith, nat_tests)
@@ -65,29 +134,17 @@ read r limit s f P (Err e) h same err =
     err (same.1 (digits, omega (arith, value, less))))))
 
 -- without a sign
-pub read_unsigned : {E : Type 0} (r : ℕ) (s : List ℕ) (q : Result ℕ E) → r ≤ 16 → get_or s 0 0 ≢ 43
-    → ParsesUnsigned 64 r s q → result_ok q ≡ below (2 ^ 64) (numeral r s)
-read_unsigned r s q h no_plus parsed =
+pub read_unsigned : {E : Type 0} (k r : ℕ) (s : List ℕ) (q : Result ℕ E) → r ≤ 16 → get_or s 0 0 ≢ 43
+    → ParsesUnsigned k r s q → result_ok q ≡ below (2 ^ k) (numeral r s)
+read_unsigned k r s q h no_plus parsed =
     let plain = rw (without_leading_plus_none s no_plus) at parsed in
-    read r (2 ^ 64) s (λ n. n) (IsNumeral r s × (digits_value r s < 2 ^ 64)) q h (λ p. p, λ p. p) plain
-    ∙ option_map_id (below (2 ^ 64) (numeral r s))
+    read r (2 ^ k) s (λ n. n) (IsNumeral r s × (digits_value r s < 2 ^ k)) q h (λ p. p, λ p. p) plain
+    ∙ option_map_id (below (2 ^ k) (numeral r s))
 
-own : IsNumeralModel (AllDigits 10) (digits_value 10)
-own = numerals_by_value (AllDigits 10) tells_digits
-
--- with a minus sign or without
-pub read_signed : {E : Type 0} (s : List ℕ) (q : Result ℤ E) → get_or s 0 0 ≢ 43 → ParsesSigned w16 10 s q
-    → result_ok q ≡ integer s
-read_signed s q no_plus parsed =
-    elim (cases_eq (get_or s 0 0) 45) [
-      | inl minus ↦
-          read 10 32769 (drop 1 s) (λ n. neg_ℤ (pos n)) _ q (omega arith)
-          (λ p. ((p.1, p.0), omega (arith, p.2)), λ p. (p.0.1, p.0.0, omega (arith, p.1)))
-          (parse_signed_minus own w16 s q parsed minus)
-          ∙ sym (cond-true (eqb (get_or s 0 0) 45) (negative (numeral 10 (drop 1 s))) (positive (numeral 10 s)) (eq-eqb (get_or s 0 0) 45 minus))
-      | inr no_minus ↦
-          read 10 32768 s pos _ q (omega arith)
-          (λ p. ((p.1, p.0), p.2), λ p. (p.0.1, p.0.0, p.1))
-          (parse_signed_plain own w16 s q parsed no_plus no_minus)
-          ∙ sym (cond-false (eqb (get_or s 0 0) 45) (negative (numeral 10 (drop 1 s))) (positive (numeral 10 s)) (ne_eqb (get_or s 0 0) 45 no_minus))
-    ]
+-- without a minus sign a number that is too large for the library is none
+pub none_plain : (s : List ℕ) → ((rest : List ℕ) → s ≢ encode 45 ++ rest) → below (2 ^ 16) (numeral 10 s) ≡ None → integer s ≡ None
+unfolding encode
+none_plain [] h e = refl
+none_plain (c ∷ s) h e =
+    cond-false (eqb c 45) (negative (numeral 10 s)) (positive (numeral 10 (c ∷ s))) (ne_eqb c 45 (λ d. h s (ap (λ b. b ∷ s) d)))
+    ∙ positive_none (numeral 10 (c ∷ s)) e

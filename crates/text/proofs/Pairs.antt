@@ -1,93 +1,175 @@
--- The library's reading and writing of octets are ours.
-use Rattle.std.proofs.Common.{◌≡◌, ℕ, suc, ◌+◌, ◌*◌, ◌/◌, ◌%◌, ◌<◌, List, [], ◌∷◌, length, get_or, MatchResult, Ok, Err, Result, Some, None, Option, sym, refl, ap, ap₂, ◌∙◌, inl, inr, arith}
-use Rattle.std.specs.Result.{result_ok}
-use Rattle.std.proofs.lemmas.List.FromFn.{get_or-map-range_with_len}
-use Rattle.std.proofs.lemmas.Bool.{cases_eq}
+-- Reading and writing octets one pair of digits after the other.
+use Rattle.std.proofs.Common.{◌≡◌, ◌≢◌, ℕ, zero, suc, ◌+◌, ◌-◌, ◌*◌, ◌/◌, ◌%◌, ◌<◌, ◌≤◌, List, [], ◌∷◌, ◌++◌, length, length-set, take, drop, get_or, Some, None, Option, sym, refl, ap, ap₂, ◌∙◌, arith}
+use Rattle.std.specs.Prelude.{EachIndex, slice_index, slice_range, slice_set, IsAscii}
+use Rattle.std.specs.Option.{option_map}
 use Rattle.std.proofs.lemmas.Bool.Decides.{nat_tests}
-use Rattle.hex.specs.Hex.{hex_digit_value, lower_digits, encode_with, encode_lower, decode_pairs, decode_of, decode_sized, IsBytes, pair_value, digit_or_error, ◌>>=◌}
-use Rattle.hex.specs.declared.error.FromHexError.{FromHexError}
-use Rattle.hex.proofs.HexLemmas.{decode_of-even, decode_of-odd, decode_of-encode_lower, decode_sized-odd, decode_sized-twice}
+use Rattle.std.proofs.lemmas.List.{drop_more, drop_all, take_more, take_all, take_more_set, drop-take, take-take, take-append-drop, append_assoc, append-nil}
+use Rattle.std.proofs.lemmas.Str.{IsUtf8-from_ascii}
+use Rattle.std.proofs.lemmas.Str.Ascii.{IsAscii-nil, IsAscii-cons}
+use Rattle.std.specs.Str.{IsUtf8}
 use Rattle.text.specs.Digit.{digit, digit_value}
 use Rattle.text.specs.Hexadecimal.{paired, before, octets_read, hexadecimal_text}
 
-same_value : (c : ℕ) → hex_digit_value c ≡ digit_value c
-same_value c = grind (arith, nat_tests)
-
-same_digit : (v : ℕ) → v < 16 → get_or lower_digits v 0 ≡ digit v
-same_digit v h = get_or-map-range_with_len digit 0 16 v v 0 h (omega arith)
-
--- octets are written alike
-pub same_text : (os : List ℕ) → IsBytes os → encode_lower os ≡ hexadecimal_text os
-unfolding encode_with
-same_text [] h = refl
-same_text (o ∷ os) h =
-    let high = same_digit (o / 16) (omega (arith, h 0)) in
-    let low = same_digit (o % 16) (omega arith) in
-    let rest = same_text os (λ k. h (suc k)) in
-    cc
-
--- two digits write the same octet
-both : (a b i : ℕ) (high low : Option ℕ)
-    → result_ok (digit_or_error a i high >>= λ h. (digit_or_error b (i + 1) low >>= λ l. Ok (h * 16 + l))) ≡ paired high low
-both a b i None low = refl
-both a b i (Some high) None = refl
-both a b i (Some high) (Some low) = refl
-
--- an octet before others
-one_before : (octet : Result ℕ FromHexError) (others : Result (List ℕ) FromHexError)
-    → result_ok (octet >>= λ o. (others >>= λ os. Ok (o ∷ os))) ≡ before (result_ok octet) (result_ok others)
-one_before (Err e) others = refl
-one_before (Ok o) (Err e) = refl
-one_before (Ok o) (Ok os) = refl
-
--- pairs of digits are read alike, and a digit alone is none
-same_pairs : (i : ℕ) (s : List ℕ) → result_ok (decode_pairs i s) ≡ octets_read s
-unfolding decode_pairs
-same_pairs i [] = refl
-same_pairs i (a ∷ []) = refl
-same_pairs i (a ∷ b ∷ s) =
-    let pair = both a b i (hex_digit_value a) (hex_digit_value b) ∙ ap₂ paired (same_value a) (same_value b) in
-    one_before (pair_value a b i) (decode_pairs (i + 2) s) ∙ ap₂ before pair (same_pairs (i + 2) s)
+-- ---- reading
 
 none_before : (octet : Option ℕ) → before octet None ≡ None
 none_before None = refl
 none_before (Some o) = refl
 
-odd_none : (s : List ℕ) → length s % 2 ≡ 1 → octets_read s ≡ None
-odd_none [] h = absurd (omega arith)
+pub odd_none : (s : List ℕ) → length s % 2 ≢ 0 → octets_read s ≡ None
+odd_none [] h = absurd (h refl)
 odd_none (a ∷ []) h = refl
 odd_none (a ∷ b ∷ s) h =
     let pair : Option ℕ = paired (digit_value a) (digit_value b) in
-    ap (before pair) (odd_none s (omega arith)) ∙ none_before pair
+    ap (before pair) (odd_none s (λ e. h (omega arith))) ∙ none_before pair
 
--- a text is read alike
-pub same_octets : (s : List ℕ) → result_ok (decode_of s) ≡ octets_read s
-same_octets s =
-    elim (cases_eq (length s % 2) 1) [
-      | inl odd ↦ ap result_ok (decode_of-odd s odd) ∙ sym (odd_none s odd)
-      | inr even ↦ ap result_ok (decode_of-even s (omega arith)) ∙ same_pairs 0 s
-    ]
+abbrev pub AreDigits : List ℕ → Type 0
+AreDigits s = EachIndex s (λ k. digit_value (slice_index s k) ≢ None)
 
--- and so it is read into room for just its octets
-pub same_sized : (s : List ℕ) → result_ok (decode_sized s (length s / 2)) ≡ octets_read s
-same_sized s =
-    elim (cases_eq (length s % 2) 1) [
-      | inl odd ↦ ap result_ok (decode_sized-odd s (length s / 2) odd) ∙ sym (odd_none s odd)
-      | inr even ↦ ap result_ok (decode_sized-twice s (length s / 2) (omega arith)) ∙ same_octets s
-    ]
+-- a pair is none where one of its letters is no digit, and else it is an octet
+paired_none : (high low : Option ℕ) → paired high low ≡ None → high ≢ None → low ≢ None → ⊥
+paired_none None low e h l = h refl
+paired_none (Some high) None e h l = l refl
+paired_none (Some high) (Some low) e h l = cc e
 
--- of what a reading into a slice answers, and what the slice holds then
-pub written_there : (d : Result (List ℕ) FromHexError) (r : Result Unit FromHexError) (out : List ℕ)
-    → MatchResult d (λ bytes. (r ≡ Ok tt) × (out ≡ bytes)) (λ e. r ≡ Err e) → r ≡ Ok tt → result_ok d ≡ Some out
-written_there (Ok bytes) r out h ok = ap Some (sym h.1)
-written_there (Err e) r out h ok = cc (h, ok)
+none_paired : (high : Option ℕ) → paired high None ≡ None
+none_paired None = refl
+none_paired (Some high) = refl
 
-pub nothing_there : (d : Result (List ℕ) FromHexError) (r : Result Unit FromHexError) (out : List ℕ) (e : FromHexError)
-    → MatchResult d (λ bytes. (r ≡ Ok tt) × (out ≡ bytes)) (λ e. r ≡ Err e) → r ≡ Err e → result_ok d ≡ None
-nothing_there (Ok bytes) r out e h bad = cc (h.0, bad)
-nothing_there (Err e') r out e h bad = refl
+first_none : (octet : Option ℕ) (others : Option (List ℕ)) → before octet others ≡ None → octet ≢ None → others ≡ None
+first_none None others e h = absurd (h refl)
+first_none (Some octet) None e h = refl
+first_none (Some octet) (Some others) e h = cc e
 
--- octets come back
-pub octets_come_back : (os : List ℕ) → IsBytes os → octets_read (hexadecimal_text os) ≡ Some os
-octets_come_back os h =
-    ap octets_read (sym (same_text os h)) ∙ sym (same_octets (encode_lower os)) ∙ ap result_ok (decode_of-encode_lower os h)
+-- digits in pairs are read
+pub digits_some : (s : List ℕ) → length s % 2 ≡ 0 → AreDigits s → octets_read s ≢ None
+digits_some [] e h none = cc none
+digits_some (a ∷ []) e h none = absurd (omega (arith, e))
+digits_some (a ∷ b ∷ s) e h none =
+    let pair : paired (digit_value a) (digit_value b) ≢ None = λ p. paired_none _ _ p (h 0 (omega arith)) (h 1 (omega arith)) in
+    digits_some s (omega (arith, e)) (λ k l. h (suc (suc k)) (omega (arith, l))) (first_none _ _ none pair)
+
+-- what is read is digits alone
+read_digits : (s : List ℕ) → octets_read s ≢ None → AreDigits s
+read_digits [] some k l = absurd (omega (arith, l))
+read_digits (a ∷ []) some k l = absurd (some refl)
+read_digits (a ∷ b ∷ s) some zero l = λ e. some (ap (λ d. before (paired d (digit_value b)) (octets_read s)) e)
+read_digits (a ∷ b ∷ s) some (suc zero) l = λ e.
+    some (ap (λ d. before (paired (digit_value a) d) (octets_read s)) e ∙ ap (λ p. before p (octets_read s)) (none_paired (digit_value a)))
+read_digits (a ∷ b ∷ s) some (suc (suc k)) l = read_digits s (λ e. some (ap (before (paired (digit_value a) (digit_value b))) e ∙ none_before (paired (digit_value a) (digit_value b)))) k (omega (arith, l))
+
+is_none : (o : Option (List ℕ)) → (o ≢ None → ⊥) → o ≡ None
+is_none None h = refl
+is_none (Some os) h = absurd (h (λ e. cc e))
+
+pub no_digits_none : (s : List ℕ) → (AreDigits s → ⊥) → octets_read s ≡ None
+no_digits_none s h = is_none (octets_read s) (λ some. h (read_digits s some))
+
+-- octets read so far, and those to come
+abbrev pub followed : List ℕ → Option (List ℕ) → Option (List ℕ)
+followed os others = option_map (λ more. os ++ more) others
+
+followed_first : (others : Option (List ℕ)) → followed [] others ≡ others
+followed_first None = refl
+followed_first (Some os) = refl
+
+pub nothing_read : (os s : List ℕ) → followed (take 0 os) (octets_read (drop 0 s)) ≡ octets_read s
+nothing_read os s = followed_first (octets_read s)
+
+followed_more : (os : List ℕ) (o : ℕ) (others : Option (List ℕ)) → followed os (before (Some o) others) ≡ followed (os ++ (o ∷ [])) others
+followed_more os o None = refl
+followed_more os o (Some more) = ap Some (sym (append_assoc os (o ∷ []) more))
+
+two_letters : (s : List ℕ) (i : ℕ) → i + 1 < length s → drop i s ≡ get_or s i 0 ∷ (get_or s (i + 1) 0 ∷ drop (i + 2) s)
+two_letters s i h =
+    let l : i < length s = omega arith in
+    let e : (i + 1) + 1 ≡ i + 2 = omega arith in
+    drop_more s i 0 l ∙ ap (λ t. get_or s i 0 ∷ t) (drop_more s (i + 1) 0 h ∙ ap (λ n. get_or s (i + 1) 0 ∷ drop n s) e)
+
+-- the next two letters read
+next_pair : (s os : List ℕ) (i : ℕ) (o : Option ℕ) → i + 1 < length s
+    → o ≡ paired (digit_value (get_or s i 0)) (digit_value (get_or s (i + 1) 0))
+    → followed os (octets_read (drop i s)) ≡ followed os (before o (octets_read (drop (i + 2) s)))
+next_pair s os i o h e =
+    ap (λ t. followed os (octets_read t)) (two_letters s i h) ∙ ap (λ p. followed os (before p (octets_read (drop (i + 2) s)))) (sym e)
+
+-- two letters that write an octet, written at its place
+pub pair_read : (s os : List ℕ) (i o : ℕ) → i < length os → length os ≡ length s / 2
+    → Some o ≡ paired (digit_value (get_or s (2 * i) 0)) (digit_value (get_or s (2 * i + 1) 0))
+    → followed (take i os) (octets_read (drop (2 * i) s)) ≡ octets_read s
+    → followed (take (i + 1) (slice_set os i o)) (octets_read (drop (2 * (i + 1)) s)) ≡ octets_read s
+pair_read s os i o l h e same =
+    let n : 2 * (i + 1) ≡ 2 * i + 2 = omega arith in
+    ap₂ (λ t m. followed t (octets_read (drop m s))) (take_more_set os i o l) n
+    ∙ sym (next_pair s (take i os) (2 * i) (Some o) (omega arith) e ∙ followed_more (take i os) o (octets_read (drop (2 * i + 2) s)))
+    ∙ same
+
+-- two letters that write none
+pub pair_refused : (s os : List ℕ) (i : ℕ) → 2 * i + 1 < length s
+    → None ≡ paired (digit_value (get_or s (2 * i) 0)) (digit_value (get_or s (2 * i + 1) 0))
+    → followed (take i os) (octets_read (drop (2 * i) s)) ≡ None
+pair_refused s os i h e = next_pair s (take i os) (2 * i) None h e
+
+-- no letter is left
+pub all_read : (s os : List ℕ) (i : ℕ) → length s ≤ 2 * i → length os ≤ i
+    → followed (take i os) (octets_read (drop (2 * i) s)) ≡ Some os
+all_read s os i g l =
+    ap (λ t. followed (take i os) (octets_read t)) (drop_all (2 * i) s g) ∙ ap Some (append-nil (take i os) ∙ take_all i os l)
+
+-- ---- writing
+
+-- one text behind the other
+hexadecimal_append : (xs ys : List ℕ) → hexadecimal_text (xs ++ ys) ≡ hexadecimal_text xs ++ hexadecimal_text ys
+hexadecimal_append [] ys = refl
+hexadecimal_append (x ∷ xs) ys = ap (λ t. digit (x / 16) ∷ (digit (x % 16) ∷ t)) (hexadecimal_append xs ys)
+
+-- two letters written
+two_written : (t : List ℕ) (i a b : ℕ) → i + 1 < length t → take (i + 2) (slice_set (slice_set t i a) (i + 1) b) ≡ take i t ++ (a ∷ (b ∷ []))
+two_written t i a b h =
+    let room : i + 1 < length (slice_set t i a) = omega (arith, length-set t i a, h) in
+    let n : i + 2 ≡ (i + 1) + 1 = omega arith in
+    ap (λ m. take m (slice_set (slice_set t i a) (i + 1) b)) n
+    ∙ (take_more_set (slice_set t i a) (i + 1) b room
+    ∙ (ap (λ u. u ++ (b ∷ [])) (take_more_set t i a (omega (arith, h))) ∙ append_assoc (take i t) (a ∷ []) (b ∷ [])))
+
+-- an octet's two digits written
+pub pair_written : (t os : List ℕ) (i a b : ℕ) → i < length os → 2 * i + 1 < length t
+    → a ≡ digit (get_or os i 0 / 16) → b ≡ digit (get_or os i 0 % 16)
+    → take (2 * i) t ≡ hexadecimal_text (take i os)
+    → take (2 * (i + 1)) (slice_set (slice_set t (2 * i) a) (2 * i + 1) b) ≡ hexadecimal_text (take (i + 1) os)
+pair_written t os i a b h room high low same =
+    let n : 2 * (i + 1) ≡ 2 * i + 2 = omega arith in
+    ap (λ m. take m (slice_set (slice_set t (2 * i) a) (2 * i + 1) b)) n
+    ∙ (two_written t (2 * i) a b room
+    ∙ (ap₂ (λ u w. u ++ w) same (ap₂ (λ x y. x ∷ (y ∷ [])) high low)
+    ∙ (sym (hexadecimal_append (take i os) (get_or os i 0 ∷ [])) ∙ ap hexadecimal_text (sym (take_more os i 0 h)))))
+
+-- all octets written
+pub all_written : (t os : List ℕ) (i : ℕ) → i ≤ length os → length os ≤ i
+    → take (2 * i) t ≡ hexadecimal_text (take i os) → take (2 * length os) t ≡ hexadecimal_text os
+all_written t os i le ge same =
+    let n : length os ≡ i = omega (arith, le, ge) in
+    ap (λ m. take (2 * m) t) n ∙ (same ∙ ap hexadecimal_text (take_all i os ge))
+
+-- some octets written, and then more of them
+pub part_written : (os : List ℕ) (i j : ℕ) → i ≤ j
+    → hexadecimal_text (take i os) ++ hexadecimal_text (slice_range os i j) ≡ hexadecimal_text (take j os)
+part_written os i j h =
+    let n : i + (j - i) ≡ j = omega (arith, h) in
+    let part : drop i (take j os) ≡ take (j - i) (drop i os) = ap (λ m. drop i (take m os)) (sym n) ∙ drop-take i (j - i) os in
+    let first : take i (take j os) ≡ take i os = take-take i j os h in
+    ap₂ (λ t u. hexadecimal_text t ++ hexadecimal_text u) (sym first) (sym part)
+    ∙ (sym (hexadecimal_append (take i (take j os)) (drop i (take j os))) ∙ ap hexadecimal_text (take-append-drop i (take j os)))
+
+-- what is written is text
+ascii_digit : (v : ℕ) → v < 16 → digit v < 128
+ascii_digit v h = grind (arith, nat_tests)
+
+ascii_text : (os : List ℕ) → ((k : ℕ) → get_or os k 0 < 256) → IsAscii (hexadecimal_text os)
+ascii_text [] h = IsAscii-nil
+ascii_text (o ∷ os) h =
+    IsAscii-cons (digit (o / 16)) (digit (o % 16) ∷ hexadecimal_text os) (ascii_digit (o / 16) (omega (arith, h 0)))
+    (IsAscii-cons (digit (o % 16)) (hexadecimal_text os) (ascii_digit (o % 16) (omega arith)) (ascii_text os (λ k. h (suc k))))
+
+pub is_text : (os : List ℕ) → ((k : ℕ) → get_or os k 0 < 256) → IsUtf8 (hexadecimal_text os)
+is_text os h = IsUtf8-from_ascii (hexadecimal_text os) (ascii_text os h)

@@ -1,5 +1,5 @@
 use std::alloc::AllocError;
-use text::hexadecimal::{comes_back, hexadecimal_of, octets_of};
+use text::hexadecimal::{Hexadecimal, comes_back, hexadecimal_of, octets_of};
 
 #[test]
 fn octets(rt: HostRuntime) -> Result<(), AllocError> {
@@ -35,5 +35,16 @@ fn written(rt: HostRuntime) -> Result<(), AllocError> {
     let octets = [0xDE, 0xAD, 0xBE, 0xEF, 0x01, 0x23];
     let again = comes_back(rt.alloc(), &octets)?;
     assert_eq!(rt; again.as_deref(), Some(octets.as_slice()));
+    Ok(())
+}
+
+#[test]
+fn shown(rt: HostRuntime) -> Result<(), AllocError> {
+    let octets = [0xA5; 33];
+    let text = format!(in rt.alloc(); "<{}>", Hexadecimal(&octets))?;
+    assert_eq!(rt;
+        text.as_str(),
+        "<a5a5a5a5a5a5a5a5a5a5a5a5a5a5a5a5a5a5a5a5a5a5a5a5a5a5a5a5a5a5a5a5a5>"
+    );
     Ok(())
 }
