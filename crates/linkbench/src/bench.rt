@@ -1,6 +1,6 @@
 use crate::acting::act;
 use crate::chosen::{Chosen, Step};
-use crate::source::Source;
+use crate::source::{Source, asked};
 use crate::trouble::Trouble;
 use calling::Calling;
 use carrier::Carrier;
@@ -12,7 +12,7 @@ use record::draw::Draw;
 use record::meter::Meter;
 use script::expected::Expected;
 use script::kinds::Written;
-use script::line::{Call, Kind, Network};
+use script::line::{Call, Kind, Line, Network};
 use std::io::BufRead;
 
 // A script that is run: what it chose, and the lines that are still to come.
@@ -32,6 +32,23 @@ impl<'a, R: BufRead + Drop> Bench<'a, R> {
         }
     }
 
+    // The next line that makes a link or calls it, by its number; the lines before it are taken.
+    fn advance(&mut self) -> Result<Option<(u64, Step)>, Trouble> {
+        for (number, line) in self.source.by_ref() {
+            match asked(self.rt.alloc(), number, line)? {
+                Line::Nothing => {}
+                Line::Setting { setting } => self.chosen.set(self.rt, setting)?,
+                Line::Link { start } => {
+                    if let Some(setup) = self.chosen.making(self.rt, number, start)? {
+                        return Ok(Some((number, Step::Link(setup))));
+                    }
+                }
+                Line::Call { call } => return Ok(Some((number, Step::Call(call)))),
+            }
+        }
+        Ok(None)
+    }
+
     // The lines until one makes a link; each call before it is passed on with the number of its line.
     fn until_link<F: FnMut(u64, Call) -> Result<(), Trouble>>(
         &mut self,
@@ -39,12 +56,12 @@ impl<'a, R: BufRead + Drop> Bench<'a, R> {
     ) -> Result<Option<Setup>, Trouble>
         requires { F.IsAlwaysCallable call_link }
     {
-        for line in self.source.by_ref() {
-            let (number, line) = line?;
-            match self.chosen.step(self.rt, number, line)? {
-                None => {}
-                Some(Step::Link(setup)) => return Ok(Some(setup)),
-                Some(Step::Call(call)) => call_link(number, call)?,
+        // a loop over input has no measure of its own
+        for _ in 0..u64::MAX {
+            match self.advance()? {
+                None => break,
+                Some((_, Step::Link(setup))) => return Ok(Some(setup)),
+                Some((number, Step::Call(call))) => call_link(number, call)?,
             }
         }
         Ok(None)

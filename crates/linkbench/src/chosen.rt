@@ -7,7 +7,7 @@ use disturber::script::Script;
 use message::making::{ParameterRefusal, Settings};
 use message::parameters::Parameters;
 use script::expected::Expected;
-use script::line::{Call, Kind, Line, Network, Setting};
+use script::line::{Call, Kind, Network, Setting};
 use script::show::Refused;
 
 // What a script chose for the next link.
@@ -81,7 +81,7 @@ impl Chosen {
         Ok(())
     }
 
-    fn set(&mut self, rt: &HostRuntime, setting: Setting) -> Result<(), Trouble> {
+    pub fn set(&mut self, rt: &HostRuntime, setting: Setting) -> Result<(), Trouble> {
         match setting {
             Setting::Kind { kind } => {
                 self.kind = kind;
@@ -105,7 +105,12 @@ impl Chosen {
     }
 
     // What a link from this number on is made with, unless the number is refused.
-    fn making(&self, rt: &HostRuntime, line: u64, start: u32) -> Result<Option<Setup>, Trouble> {
+    pub fn making(
+        &self,
+        rt: &HostRuntime,
+        line: u64,
+        start: u32,
+    ) -> Result<Option<Setup>, Trouble> {
         let Some(parameters) = self.parameters else {
             return Err(Trouble::expected(line, Expected::GoodParameters));
         };
@@ -118,24 +123,6 @@ impl Chosen {
                 tell(rt, "link", Err(refusal.number()))?;
                 Ok(None)
             }
-        }
-    }
-
-    // Takes a line that sets something; a line that makes a link or calls it is a step.
-    pub fn step(
-        &mut self,
-        rt: &HostRuntime,
-        number: u64,
-        line: Line,
-    ) -> Result<Option<Step>, Trouble> {
-        match line {
-            Line::Nothing => Ok(None),
-            Line::Setting { setting } => {
-                self.set(rt, setting)?;
-                Ok(None)
-            }
-            Line::Link { start } => Ok(self.making(rt, number, start)?.map(Step::Link)),
-            Line::Call { call } => Ok(Some(Step::Call(call))),
         }
     }
 }

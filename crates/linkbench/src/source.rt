@@ -9,7 +9,6 @@ use std::io::{BufRead, Lines};
 // A script, read line by line.
 #[derive(Drop)]
 pub struct Source<R> {
-    heap: Global,
     lines: Lines<R>,
     // how many lines were read
     number: u64,
@@ -18,35 +17,33 @@ pub struct Source<R> {
 impl<R: BufRead + Drop> Source<R> {
     pub fn new(heap: Global, reader: R) -> Source<R> {
         Source {
-            heap,
             lines: reader.lines(heap),
             number: 0,
         }
     }
+}
 
-    // What a line asks, by its number from 1.
-    fn read(&self, line: io::Result<String>) -> Result<(u64, Line), Trouble> {
-        match line {
-            Ok(text) => Ok((
-                self.number,
-                read_line(self.heap, self.number, text.as_str())?,
-            )),
-            Err(e) if e.kind() == io::ErrorKind::InvalidData => {
-                Err(Trouble::expected(self.number, Expected::Text))
-            }
-            Err(e) => Err(Trouble::Stream(e)),
+// What the line of this number asks.
+#[inline(always)]
+pub fn asked(heap: Global, number: u64, line: io::Result<String>) -> Result<Line, Trouble> {
+    match line {
+        Ok(text) => Ok(read_line(heap, number, text.as_str())?),
+        Err(e) if e.kind() == io::ErrorKind::InvalidData => {
+            Err(Trouble::expected(number, Expected::Text))
         }
+        Err(e) => Err(Trouble::Stream(e)),
     }
 }
 
+// The lines, each by its number from 1.
 impl<R: BufRead + Drop> Iterator for Source<R> {
-    type Item = Result<(u64, Line), Trouble>;
+    type Item = (u64, io::Result<String>);
 
     ghost remaining = { λ s. ⟦<Lines<R> as Iterator>⟧.remaining s.lines };
 
-    fn next(&mut self) -> Option<Result<(u64, Line), Trouble>> {
+    fn next(&mut self) -> Option<(u64, io::Result<String>)> {
         let line = self.lines.next()?;
         self.number = self.number.saturating_add(1);
-        Some(self.read(line))
+        Some((self.number, line))
     }
 }

@@ -1,35 +1,16 @@
--- What `{:02x}` and `{:016X}` write, by the words of specs/.
-use Rattle.std.proofs.Common.{◌≡◌, ℕ, suc, zero, ◌+◌, ◌-◌, ◌*◌, ◌/◌, ◌%◌, ◌^◌, ◌<◌, ◌≤◌, true, false, List, [], ◌∷◌, ◌++◌, length, take, get_or, sym, ap, refl, ◌∙◌, arith, ⊎_elim}
+-- What `{:016X}` writes, by the words of specs/.
+use Rattle.std.proofs.Common.{◌≡◌, ℕ, suc, zero, ◌+◌, ◌-◌, ◌*◌, ◌/◌, ◌%◌, ◌^◌, ◌<◌, ◌≤◌, true, false, List, [], ◌∷◌, ◌++◌, length, sym, ap, refl, ◌∙◌, arith, ⊎_elim}
 use Rattle.std.proofs.DigitsParse.{digits_onto-nil, digits_onto_last, digits_onto_step}
 use Rattle.std.proofs.lemmas.Bool.{cases_lt}
 use Rattle.std.proofs.Math.ListN.{replicate}
 use Rattle.std.proofs.Math.Nat.{pow-suc}
-use Rattle.std.proofs.lemmas.List.{take_more, append-nil}
+use Rattle.std.proofs.lemmas.List.{append-nil}
 use Rattle.std.specs.Fmt.{digit_glyph, digits, digits_onto, padded_integral, format_spec, char_count}
-use Rattle.text.specs.Digit.{digit}
-use Rattle.text.specs.Hexadecimal.{hexadecimal_text}
 use Rattle.script.specs.Records.{capital, capital_text, from_highest}
 
 -- the library's digits are ours
-pub small_glyph : (d : ℕ) → digit_glyph false d ≡ digit d
-small_glyph d = grind arith
-
 pub capital_glyph : (d : ℕ) → digit_glyph true d ≡ capital d
 capital_glyph d = grind arith
-
--- one more octet at the end of a text
-hexadecimal_more : (xs : List ℕ) (o : ℕ) → hexadecimal_text (xs ++ (o ∷ [])) ≡ hexadecimal_text xs ++ (digit (o / 16) ∷ (digit (o % 16) ∷ []))
-hexadecimal_more [] o = refl
-hexadecimal_more (x ∷ xs) o = ap (λ t. digit (x / 16) ∷ (digit (x % 16) ∷ t)) (hexadecimal_more xs o)
-
-pub octet_more : (xs : List ℕ) (i : ℕ) → i < length xs
-    → hexadecimal_text (take i xs) ++ (digit_glyph false (get_or xs i 0 / 16) ∷ (digit_glyph false (get_or xs i 0 % 16) ∷ []))
-    ≡ hexadecimal_text (take (i + 1) xs)
-octet_more xs i h =
-    let o = get_or xs i 0 in
-    ap (λ t. hexadecimal_text (take i xs) ++ t)
-    (ap (λ d. d ∷ (digit_glyph false (o % 16) ∷ [])) (small_glyph (o / 16)) ∙ ap (λ d. digit (o / 16) ∷ (d ∷ [])) (small_glyph (o % 16)))
-    ∙ (sym (hexadecimal_more (take i xs) o) ∙ ap hexadecimal_text (sym (take_more xs i 0 h)))
 
 -- the last k digits of a number, and then a text
 abbrev wide : ℕ → ℕ → List ℕ → List ℕ

@@ -1,5 +1,7 @@
 ghost use Rattle.std.specs.Prelude.{◌≡◌, ℕ, List, Some, Option};
+ghost use Rattle.std.specs.Fmt.{WritesOnOk};
 ghost use Rattle.script.specs.declared.line.Given.{Given};
+ghost use Rattle.script.specs.declared.line.Given.TheVariants as given;
 ghost use Rattle.script.specs.Givens.{meter_given, draw_given};
 ghost use Rattle.script.specs.Records.{meter_text, draw_text, given_text};
 
@@ -22,10 +24,9 @@ pub trait Written: RecordKind {
     fn of(given: Given) -> Option<Self>
         ensures { result ≡ taken given };
 
-    // The record as a line gives it.
-    fn given(self) -> Given
-        ensures text { given_text result ≡ written self }
-        ensures same { taken result ≡ Some self };
+    // Writes the record as a line has it.
+    fn write_to<W: fmt::Write>(&self, f: &mut fmt::Formatter<W>) -> fmt::Result
+        ensures { WritesOnOk W.write_str_gives f.old result (written self.now) f.new };
 }
 
 impl Written for Meter {
@@ -40,8 +41,14 @@ impl Written for Meter {
         }
     }
 
-    fn given(self) -> Given {
-        Given::Meter(self)
+    fn write_to<W: fmt::Write>(&self, f: &mut fmt::Formatter<W>) -> fmt::Result {
+        let Meter {
+            pulses,
+            centidegrees,
+            valid,
+        } = *self;
+        let validity = word(valid, "valid", "invalid");
+        write!(f, "{pulses} {centidegrees} {validity}")
     }
 }
 
@@ -57,8 +64,37 @@ impl Written for Draw {
         }
     }
 
-    fn given(self) -> Given {
-        Given::Draw(self)
+    fn write_to<W: fmt::Write>(&self, f: &mut fmt::Formatter<W>) -> fmt::Result {
+        match *self {
+            Draw::Stop => write!(f, "stop"),
+            Draw::Run(rate) => write!(f, "run {}", Double(rate)),
+            Draw::Preset(litres) => write!(f, "preset {}", Double(litres)),
+        }
+    }
+}
+
+// The record as a line gives it.
+impl From<Meter> for Given {
+    ghost from_gives = { λ meter r. r ≡ given.Meter meter };
+
+    fn from(value: Meter) -> Given
+        ensures made { result ≡ given.Meter value }
+        ensures text { given_text result ≡ meter_text value }
+        ensures same { meter_given result ≡ Some value }
+    {
+        Given::Meter(value)
+    }
+}
+
+impl From<Draw> for Given {
+    ghost from_gives = { λ draw r. r ≡ given.Draw draw };
+
+    fn from(value: Draw) -> Given
+        ensures made { result ≡ given.Draw value }
+        ensures text { given_text result ≡ draw_text value }
+        ensures same { draw_given result ≡ Some value }
+    {
+        Given::Draw(value)
     }
 }
 
@@ -68,19 +104,8 @@ impl fmt::Display for Given {
 
     fn fmt<W: fmt::Write>(&self, f: &mut fmt::Formatter<W>) -> fmt::Result {
         match *self {
-            Given::Meter(
-                Meter {
-                    pulses,
-                    centidegrees,
-                    valid,
-                },
-            ) => {
-                let validity = word(valid, "valid", "invalid");
-                write!(f, "{pulses} {centidegrees} {validity}")
-            }
-            Given::Draw(Draw::Stop) => write!(f, "stop"),
-            Given::Draw(Draw::Run(rate)) => write!(f, "run {}", Double(rate)),
-            Given::Draw(Draw::Preset(litres)) => write!(f, "preset {}", Double(litres)),
+            Given::Meter(meter) => meter.write_to(f),
+            Given::Draw(draw) => draw.write_to(f),
         }
     }
 }

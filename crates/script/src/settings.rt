@@ -77,7 +77,10 @@ fn code(text: &str) -> Result<u8, LineFault> {
 }
 
 pub(crate) fn read_codes(heap: Global, words: Words<'_>) -> Result<Setting, LineFault> {
-    let codes = words.words.map(code).try_collect(heap)?;
+    let mut codes = Vec::new(heap);
+    for word in words.words {
+        codes.push(code(word)?)?;
+    }
     Ok(Setting::Disturb { codes })
 }
 

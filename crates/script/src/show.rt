@@ -1,11 +1,11 @@
 // The lines that tell what was answered.
-ghost use Rattle.std.specs.Prelude.{◌≡◌, Some};
+ghost use Rattle.std.specs.Prelude.{◌≡◌, ◌++◌, Some, codes, decimal};
 ghost use Rattle.std.specs.Fmt.{WritesOnOk};
+ghost use Rattle.consumer.specs.Cycled.{refusal_number};
 ghost use Rattle.script.specs.Texts.{event_text, shown_text, cycle_text};
 ghost use Rattle.script.specs.Texts.{answered_text, serve_text, place_text, refused_text};
 
 use crate::choice::word;
-use crate::digits::Octets;
 use crate::kinds::Written;
 use carrier::lane::{Lane, PlaceRefusal};
 use consumer::event::{CycleAnswer, CycleRefusal, Event};
@@ -13,6 +13,7 @@ use consumer::state::Shown;
 use message::request::Request;
 use provider::answer::{ServeAnswer, ServeRefusal};
 use std::fmt;
+use text::hexadecimal::Hexadecimal;
 
 #[derive(Clone, Copy)]
 struct EventText(Event);
@@ -33,6 +34,18 @@ impl fmt::Display for EventText {
     }
 }
 
+// A record as a line has it.
+#[derive(Clone, Copy)]
+pub struct RecordText<'a, K>(pub &'a K);
+
+impl<K: Written> fmt::Display for RecordText<'_, K> {
+    ghost output = { λ text. Some (K.written text.0.now) };
+
+    fn fmt<W: fmt::Write>(&self, f: &mut fmt::Formatter<W>) -> fmt::Result {
+        self.0.write_to(f)
+    }
+}
+
 #[derive(Clone, Copy)]
 struct ShownText<K>(Shown<K>);
 
@@ -41,7 +54,7 @@ impl<K: Written> fmt::Display for ShownText<K> {
 
     fn fmt<W: fmt::Write>(&self, f: &mut fmt::Formatter<W>) -> fmt::Result {
         let mark = word(self.0.fsv_activated, "substitutes", "process");
-        let record = self.0.safety_data.given();
+        let record = RecordText(&self.0.safety_data);
         let wish = word(self.0.operator_ack_requested, "on", "off");
         let ack = word(self.0.operator_ack_provider, "on", "off");
         let test = word(self.0.test_mode_activated, "on", "off");
@@ -50,6 +63,17 @@ impl<K: Written> fmt::Display for ShownText<K> {
             "{mark} {record} wish={wish} ack-provider={ack} test-mode={test}"
         )
     }
+}
+
+// A cycle at this reading that was refused.
+fn write_refused<W: fmt::Write>(
+    f: &mut fmt::Formatter<W>,
+    reading: u64,
+    refusal: CycleRefusal,
+) -> fmt::Result
+    ensures { WritesOnOk W.write_str_gives f.old result (codes "cycle " ++ (decimal reading ++ (codes ": refused " ++ decimal (refusal_number refusal)))) f.new }
+{
+    write!(f, "cycle {reading}: refused {}", refusal.number())
 }
 
 // What a cycle at this reading answered.
@@ -70,7 +94,7 @@ impl<K: Written> fmt::Display for CycleLine<K> {
                 let event = EventText(event);
                 write!(f, "cycle {reading}: {shown} event={event}")
             }
-            Err(refusal) => write!(f, "cycle {reading}: refused {}", refusal.number()),
+            Err(refusal) => write_refused(f, reading, refusal),
         }
     }
 }
@@ -90,7 +114,7 @@ fn write_answered<W: fmt::Write>(
         flags,
     } = request;
     let flags = u8::from(flags);
-    let sent = Octets(sent);
+    let sent = Hexadecimal(sent);
     write!(
         f,
         "serve: answered consumer={consumer_id} number={monitoring_number} flags={flags} {age} sent={sent}"

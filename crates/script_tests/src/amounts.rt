@@ -1,6 +1,5 @@
 // Rates and litres: the numbers that a line can give, and the text of each.
 use record::draw::Draw;
-use script::kinds::Written;
 use script::line::{Call, Given, Line};
 use script::reading::read_line;
 use std::alloc::Global;
@@ -73,7 +72,7 @@ fn numbers(rt: HostRuntime) -> Result<(), Fail> {
             let Some(draw) = draw(rt.alloc(), name, amount)? else {
                 return Err(Fail::new(amount));
             };
-            let text = format!(in rt.alloc(); "{}", draw.given())?;
+            let text = format!(in rt.alloc(); "{}", Given::from(draw))?;
             let printed = format!(in rt.alloc(); "{name} {bits}")?;
             assert!(rt; text.as_str() == printed.as_str(), "{}", amount);
         }

@@ -1,5 +1,8 @@
 // Lines at the limits of their numbers, blank lines, and options in any order.
+use consumer::inputs::Inputs;
+use message::flags::ResponseFlags;
 use message::making::Settings;
+use record::meter::Meter;
 use script::line::{Call, Given, Line, Network, Setting};
 use script::reading::read_line;
 use std::alloc::Global;
@@ -92,26 +95,44 @@ fn memories_and_codes(rt: HostRuntime) -> Result<(), Fail> {
     }
 }
 
-fn check_cycle_options(rt: &impl Abort, heap: Global) -> Result<(), Fail> {
+fn cycle(heap: Global, text: &str) -> Result<(Inputs, u64), Fail> {
+    match read(heap, text)? {
+        Line::Call {
+            call: Call::Cycle { inputs, buffer },
+        } => Ok((inputs, buffer)),
+        _ => Err(Fail::new("no cycle")),
+    }
+}
+
+fn serve(heap: Global, text: &str) -> Result<(Meter, ResponseFlags), Fail> {
+    match read(heap, text)? {
+        Line::Call {
+            call: Call::Serve {
+                given: Given::Meter(meter),
+                flags,
+                buffer: 1525,
+            },
+        } => Ok((meter, flags)),
+        _ => Err(Fail::new("no serve")),
+    }
+}
+
+// A call's options in any order, and the buffer that is lent.
+#[test]
+fn options(rt: HostRuntime) -> Result<(), Fail> {
     for (text, octets) in [
         ("cycle 0xFFFFFFFFFFFFFFFF enable ack", 1525),
         ("cycle 18446744073709551615 enable ack buffer=7", 7),
         ("cycle 18446744073709551615 enable buffer=0 ack", 0),
     ] {
-        match read(heap, text)? {
-            Line::Call {
-                call: Call::Cycle { inputs, buffer },
-            } => {
-                assert!(rt; inputs.reading == u64::MAX && inputs.enable && inputs.ack);
-                assert_eq!(rt; buffer, octets, "{}", text);
-            }
-            _ => return Err(Fail::new("no cycle")),
-        }
+        let (inputs, buffer) = cycle(rt.alloc(), text)?;
+        assert!(rt;
+            inputs.reading == u64::MAX && inputs.enable && inputs.ack,
+            "{}",
+            text
+        );
+        assert_eq!(rt; buffer, octets, "{}", text);
     }
-    Ok(())
-}
-
-fn check_serve_options(rt: &impl Abort, heap: Global) -> Result<(), Fail> {
     for (text, octet) in [
         ("serve 4294967295 -32768 invalid", 0),
         ("serve 0xFFFFFFFF -32768 invalid operator-ack", 1),
@@ -124,30 +145,11 @@ fn check_serve_options(rt: &impl Abort, heap: Global) -> Result<(), Fail> {
             7,
         ),
     ] {
-        match read(heap, text)? {
-            Line::Call {
-                call: Call::Serve {
-                    given: Given::Meter(meter),
-                    flags,
-                    buffer: 1525,
-                },
-            } => {
-                assert!(rt;
-                    meter.pulses == u32::MAX && meter.centidegrees == i16::MIN && !meter.valid
-                );
-                assert_eq!(rt; u8::from(flags), octet, "{}", text);
-            }
-            _ => return Err(Fail::new("no serve")),
-        }
+        let (meter, flags) = serve(rt.alloc(), text)?;
+        assert!(rt; meter.pulses == u32::MAX && meter.centidegrees == i16::MIN && !meter.valid);
+        assert_eq!(rt; u8::from(flags), octet, "{}", text);
     }
     Ok(())
-}
-
-// A call's options in any order, and the buffer that is lent.
-#[test]
-fn options(rt: HostRuntime) -> Result<(), Fail> {
-    check_cycle_options(&rt, rt.alloc())?;
-    check_serve_options(&rt, rt.alloc())
 }
 
 fn check_octets(rt: &impl Abort, heap: Global, text: &str, expected: &[u8]) -> Result<(), Fail> {

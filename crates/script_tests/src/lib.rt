@@ -1,6 +1,7 @@
 // Tests of lines and answers on examples: every bad line, the limits of numbers, and what is printed.
 #![tactic(auto)]
 
+pub mod alarm;
 #[cfg(test)]
 mod amounts;
 #[cfg(test)]

@@ -1,4 +1,5 @@
 // The answers as they are printed.
+use crate::alarm::Alarm;
 use carrier::lane::{Lane, PlaceRefusal};
 use consumer::event::{CycleAnswer, CycleRefusal, Event};
 use consumer::fault::CycleFault;
@@ -11,7 +12,7 @@ use record::draw::Draw;
 use record::fault::{RecordCause, RecordFault};
 use record::meter::Meter;
 use script::kinds::Written;
-use script::show::{CycleLine, PlaceLine, Refused, ServeLine};
+use script::show::{CycleLine, PlaceLine, RecordText, Refused, ServeLine};
 use std::alloc::Global;
 use std::fmt::Display;
 use std::process::Abort;
@@ -133,6 +134,24 @@ fn cycles(rt: HostRuntime) -> Result<(), Fail> {
         answer: Err(CycleRefusal::ShortBuffer),
     };
     check_line(&rt, rt.alloc(), refused, "cycle 10: refused 7")
+}
+
+#[test]
+fn another_kind(rt: HostRuntime) -> Result<(), Fail> {
+    let off = Alarm { on: false };
+    check_line(&rt, rt.alloc(), RecordText(&off), "alarm off")?;
+    check_line(
+        &rt,
+        rt.alloc(),
+        accepted(Shown {
+            safety_data: Alarm { on: true },
+            fsv_activated: false,
+            operator_ack_requested: true,
+            operator_ack_provider: false,
+            test_mode_activated: false,
+        }),
+        "cycle 0: process alarm on wish=on ack-provider=off test-mode=off event=accepted",
+    )
 }
 
 const REQUEST: Request = Request {
