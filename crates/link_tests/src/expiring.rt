@@ -10,17 +10,14 @@ use crate::steps::Told::*;
 #[test]
 fn timeout_and_hold(rt: HostRuntime) {
     for (necessary, shown) in [(true, Wish), (false, Values(11))] {
-        publishes(
-            &rt,
-            necessary,
-            &[
-                On(1_000, Started, Blank),
-                On(401_000, Nothing, Blank),
-                On(401_001, Expired, Blank),
-                Serve(11, 0, New(257, 5)),
-                On(801_001, Accepted, shown),
-            ],
-        );
+        let steps = [
+            On(1_000, Started, Blank),
+            On(401_000, Nothing, Blank),
+            On(401_001, Expired, Blank),
+            Serve(11, 0, New(257, 5)),
+            On(801_001, Accepted, shown),
+        ];
+        assert_eq!(rt; publishes(necessary, &steps), None, "{necessary}");
     }
 }
 
@@ -35,7 +32,7 @@ const LATE: [Step; 5] = [
 
 #[test]
 fn late_response(rt: HostRuntime) {
-    calls(&rt, &LATE);
+    assert_eq!(rt; calls(&LATE), None);
 }
 
 // The time of a cycle with enable off counts. Requests 256 and 257 both bear it, as the larger of two times.
@@ -54,5 +51,5 @@ const RAN_BACK: [Step; 10] = [
 
 #[test]
 fn readings_that_run_back(rt: HostRuntime) {
-    publishes(&rt, false, &RAN_BACK);
+    assert_eq!(rt; publishes(false, &RAN_BACK), None);
 }

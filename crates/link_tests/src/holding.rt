@@ -9,19 +9,16 @@ use crate::steps::Told::*;
 #[test]
 fn interval(rt: HostRuntime) {
     for (second, shown) in [(20, Blank), (360_020, Blank), (360_021, Values(11))] {
-        publishes(
-            &rt,
-            false,
-            &[
-                On(0, Started, Blank),
-                Serve(11, 0, New(256, 4)),
-                On(10, Accepted, Values(11)),
-                Down(999, None),
-                On(20, Fault(24), Values(11)),
-                On(second, Fault(24), shown),
-                On(360_030, Fault(24), Blank),
-            ],
-        );
+        let steps = [
+            On(0, Started, Blank),
+            Serve(11, 0, New(256, 4)),
+            On(10, Accepted, Values(11)),
+            Down(999, None),
+            On(20, Fault(24), Values(11)),
+            On(second, Fault(24), shown),
+            On(360_030, Fault(24), Blank),
+        ];
+        assert_eq!(rt; publishes(false, &steps), None, "{second}");
     }
 }
 
@@ -62,9 +59,9 @@ const EDGE_NOTHING: [Step; 9] = [
 
 #[test]
 fn edges(rt: HostRuntime) {
-    held(&rt, &EDGE);
-    held(&rt, &EDGE_IGNORED);
-    calls(&rt, &EDGE_NOTHING);
+    assert_eq!(rt; held(&EDGE), None);
+    assert_eq!(rt; held(&EDGE_IGNORED), None);
+    assert_eq!(rt; calls(&EDGE_NOTHING), None);
 }
 
 // The edge comes with a fault that is no repeated one: it ends the hold of an expiry all the same.
@@ -88,8 +85,8 @@ const EDGE_EXPIRED: [Step; 3] = [
 
 #[test]
 fn edges_at_failures(rt: HostRuntime) {
-    publishes(&rt, true, &EDGE_FAULT);
-    held(&rt, &EDGE_EXPIRED);
+    assert_eq!(rt; publishes(true, &EDGE_FAULT), None);
+    assert_eq!(rt; held(&EDGE_EXPIRED), None);
 }
 
 // A repeated fault in the cycle of the edge holds again; then the input stays on, which is no edge.
@@ -118,8 +115,8 @@ const ASKED: [Step; 6] = [
 
 #[test]
 fn no_edges(rt: HostRuntime) {
-    held(&rt, &HELD_ON);
-    held(&rt, &ASKED);
+    assert_eq!(rt; held(&HELD_ON), None);
+    assert_eq!(rt; held(&ASKED), None);
 }
 
 // The wish is gone after a cycle with enable off, so the input is no edge; the hold is not gone.
@@ -150,6 +147,6 @@ const OFF_FAULT: [Step; 12] = [
 
 #[test]
 fn enable_off(rt: HostRuntime) {
-    held(&rt, &OFF_HELD);
-    publishes(&rt, false, &OFF_FAULT);
+    assert_eq!(rt; held(&OFF_HELD), None);
+    assert_eq!(rt; publishes(false, &OFF_FAULT), None);
 }

@@ -131,6 +131,6 @@ const FOREIGN: [Step; 11] = [
 
 #[test]
 fn ignored(rt: HostRuntime) {
-    publishes(&rt, true, &IGNORED_ALL);
-    publishes(&rt, true, &FOREIGN);
+    assert_eq!(rt; publishes(true, &IGNORED_ALL), None);
+    assert_eq!(rt; publishes(true, &FOREIGN), None);
 }

@@ -33,7 +33,7 @@ const AGAIN_AND_NEW: [Step; 12] = [
 
 #[test]
 fn again_and_new(rt: HostRuntime) {
-    publishes(&rt, true, &AGAIN_AND_NEW);
+    assert_eq!(rt; publishes(true, &AGAIN_AND_NEW), None);
 }
 
 // The octets of a request that is answered.

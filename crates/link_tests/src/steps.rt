@@ -7,7 +7,7 @@ use record::kind::RecordKind;
 use record::meter::Meter;
 
 // A step by its name: steps are rows of constants, and a constant holds no closure.
-#[derive(Clone, Copy, Debug)]
+#[derive(Clone, Copy, Debug, PartialEq)]
 pub(crate) enum Step {
     // An enabled cycle with the acknowledgment input off: its reading, its event and what it shows.
     On(u64, Heard, Sight),
@@ -74,7 +74,7 @@ impl From<Result<ServeAnswer, ServeRefusal>> for Told {
 }
 
 // What a cycle shows.
-#[derive(Clone, Copy, Debug)]
+#[derive(Clone, Copy, Debug, PartialEq)]
 pub(crate) enum Sight {
     // substitutes
     Blank,
